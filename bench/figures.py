@@ -111,6 +111,10 @@ class Results:
 
 # The aims
 
+# A row of small requests: connections, how many are in flight, who answers, how many a second, and the microseconds of one.
+SMALL_REQUESTS = r"^ *(%s) connections with +(\d+) in flight, (%s): +(\d+) requests/s, ([\d.]+) us"
+
+
 def aims_of_peers(results):
     """One for each kind of work beside `protoc` of which the bench wants a factor."""
     return [Aim("`protoc`'s instructions by ours, the least: %s" % kind, number(wanted), False, number(factor), "", "peers.txt")
@@ -132,6 +136,14 @@ def aims_of_compilations(results):
             Aim("the same for twice the input: each case, instructions", 2.2, True, cases, "", "compile.txt"),
             Aim("the same: each group of errors, instructions", 2.2, True, groups, "", "checks.txt"),
             Aim("links for twice the output, instructions", 2.2, True, max(links[:3] + links[-3:]), "", "links.txt")]
+
+
+def aims_of_real(results):
+    """First compilations of real files, and parsing them."""
+    parsing = results.said("real.txt", r"^Parsing alone, .* ([\d.]+) now; ([\d.]+) at most wanted")[0]
+    whole = results.said("real.txt", r"^A first compilation .* ([\d.]+) instructions a byte now; ([\d.]+) at most wanted")[0]
+    return [Aim("real files, instructions a byte: to diagnostics", number(whole[1]), True, number(whole[0]), "", "real.txt"),
+            Aim("the same: parsing", number(parsing[1]), True, number(parsing[0]), "", "real.txt")]
 
 
 def aims_of_sessions(results):
@@ -180,7 +192,10 @@ def aims_of_editors(results):
     kept = max(results.said("attacks.txt", r"has (\d+) MB after it and had \d+ before \((\d+) allowed\)"), key=lambda pair: number(pair[0]))
     dear = max(results.said("attacks.txt", r"requests of (\d+) ms of another client: a small request waits (\d+) ms"),
                key=lambda pair: number(pair[1]) / number(pair[0]))
-    return [Aim("files a second with 4 workers by 1, 8 connections", number(workers[1]), False, number(workers[0]), "", "hall.txt"),
+    small = {row[1]: row[4] for row in results.said("hall.txt", SMALL_REQUESTS % ("1", "4 workers"))}
+    return [Aim("a small request of one connection, one in flight: processor time", 30, True, number(small["1"]), " microseconds", "hall.txt"),
+            Aim("the same, 30 in flight", 8, True, number(small["30"]), " microseconds", "hall.txt"),
+            Aim("files a second with 4 workers by 1, 8 connections", number(workers[1]), False, number(workers[0]), "", "hall.txt"),
             Aim("the longest wait beside a notification of 95,000 changes", number(waits[0][1]), True, max(number(one) for one, _ in waits),
                 " ms", "ranges.txt"),
             Aim("the longest wait of honest clients beside an attack", number(honest[1]), True, number(honest[0]), " ms", "attacks.txt"),
@@ -207,7 +222,7 @@ def verdict(aim):
 
 def aims(results):
     """The first section."""
-    parts = (aims_of_growth, aims_of_sessions, aims_of_compilations, aims_of_peers, aims_of_engines, aims_of_editors)
+    parts = (aims_of_growth, aims_of_sessions, aims_of_compilations, aims_of_real, aims_of_peers, aims_of_engines, aims_of_editors)
     rows = [[aim.words, "%s %g%s" % ("≤" if aim.is_most else "≥", aim.limit, aim.unit), "%g%s" % (aim.figure, aim.unit),
              verdict(aim), "`%s`" % aim.file] for part in parts for aim in part(results)]
     return lines_of_table(["Aim", "Limit", "Figure", "Missed by", "File"], rows)
@@ -261,9 +276,9 @@ def shapes(results):
 
 def rates(results):
     """Small requests and independent files."""
-    requests = results.said("hall.txt", r"^ *(1|64) connections, ([14]) workers: +(\d+) requests/s, ([\d.]+) us")
+    requests = results.said("hall.txt", SMALL_REQUESTS % ("1|64", "4 workers|the floor"))
     files = results.said("hall.txt", r"^8 connections with .*, (\d+) workers: +([\d.]+) files/s")
-    return (lines_of_table(["connections", "workers", "small requests a second", "microseconds each"], requests)
+    return (lines_of_table(["connections", "in flight", "answered by", "small requests a second", "microseconds each"], requests)
             + lines_of_table(["workers, 8 connections with files of 200 kB", "files a second"], files))
 
 

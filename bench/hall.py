@@ -3,8 +3,10 @@
 
 Each part starts a server of its own, and prints ratios of rates that were taken in the same run:
 
-    requests    requests a second with 1, 8 and 64 connections and 1, 2 and 4 workers, where nothing changed
-    woken       processor time and sleeps of the server for a small request, one at a time, with 1, 4, 16 and 32 workers
+    requests    requests a second with 1, 8 and 64 connections and 1, 2 and 4 workers, where nothing changed. A connection has
+                30 requests in flight, or one. The floor beside it is an echo of the same bytes by Python: it has one thread
+                for a connection, which reads and writes
+    woken       processor time and sleeps of the server for a small request, one in flight, with 1, 4, 16 and 32 workers
     files       first diagnostics of independent files, 8 connections: 4 workers by 1
     edit        from an edit to its diagnostics, by `listen` and by `script` over pipes
     reach       the same where the file that is asked reaches 1,000 others, for some cases of bench/workspaces.py
@@ -24,8 +26,10 @@ usage: bench/hall.py [--program PATH] [--quick] [--only WORD]
 import argparse
 import multiprocessing
 import os
+import socket
 import subprocess
 import sys
+import threading
 import time
 
 import files
@@ -41,23 +45,66 @@ BATCH = 30
 LONGEST = 0.05
 
 
-def asked_by(port, names, rounds, start, sink):
-    """A process with one connection for each name: it sends batches to all, and reads all, so many times."""
+def play(clients, rounds, in_flight):
+    """Sends each client's batch, and then reads all replies, so many times. Returns how many requests these were."""
+    for _ in range(rounds):
+        for client, batch in clients:
+            client.send(batch)
+        for client, _ in clients:
+            client.skip(in_flight)
+    return len(clients) * rounds * in_flight
+
+
+def asked_by(port, names, rounds, in_flight, start, sink):
+    """A process with one connection for each name, over which it plays its rounds."""
     text = files.proto_text(300)
     clients = []
     for name in names:
         client = Connection(port)
         client.begin(opened(name + ".proto", text))
-        clients.append((client, b"".join(diagnosed(i, name + ".proto") for i in range(BATCH))))
+        clients.append((client, b"".join(diagnosed(i, name + ".proto") for i in range(in_flight))))
     start.wait()
-    for _ in range(rounds):
-        for client, batch in clients:
-            client.send(batch)
-        for client, _ in clients:
-            client.skip(BATCH)
+    count = play(clients, rounds, in_flight)
     for client, _ in clients:
         client.end()
-    sink.put(len(clients) * rounds * BATCH)
+    sink.put(count)
+
+
+def echoed_by(port, names, rounds, in_flight, start, sink):
+    """The same to an echo: each request comes back as it was sent."""
+    clients = [(Connection(port), b"".join(diagnosed(i, name + ".proto") for i in range(in_flight))) for name in names]
+    start.wait()
+    count = play(clients, rounds, in_flight)
+    for client, _ in clients:
+        client.socket.close()
+    sink.put(count)
+
+
+def echo(listener):
+    """Writes to each connection what it sends, on a thread of its own."""
+    def serve(client):
+        client.setsockopt(socket.IPPROTO_TCP, socket.TCP_NODELAY, 1)
+        while data := client.recv(16_384):
+            client.sendall(data)
+
+    while True:
+        threading.Thread(target=serve, args=(listener.accept()[0],), daemon=True).start()
+
+
+class Echo:
+    """An echo in a process of its own, with what is asked of a `Server`."""
+
+    def __init__(self):
+        with socket.create_server(("127.0.0.1", 0)) as listener:
+            self.port = listener.getsockname()[1]
+            self.process = multiprocessing.Process(target=echo, args=(listener,), daemon=True)
+            self.process.start()
+
+    seconds = Server.seconds
+
+    def stop(self):
+        self.process.kill()
+        self.process.join()
 
 
 def together(work, shares):
@@ -78,14 +125,13 @@ def together(work, shares):
     return took, found
 
 
-def rate(program, workers, connections, requests):
+def rate(server, work, connections, requests, in_flight):
     """Requests a second, and the server's processor microseconds for one."""
-    server = Server(program, workers)
     processes = min(connections, 4)
     names = ["c%d" % i for i in range(connections)]
-    rounds = max(1, requests // (connections * BATCH))
+    rounds = max(1, requests // (connections * in_flight))
     before = server.seconds()
-    took, found = together(asked_by, [(server.port, names[i::processes], rounds) for i in range(processes)])
+    took, found = together(work, [(server.port, names[i::processes], rounds, in_flight) for i in range(processes)])
     spent = server.seconds() - before
     server.stop()
     return sum(found) / took, spent / sum(found) * 1e6
@@ -94,12 +140,19 @@ def rate(program, workers, connections, requests):
 def requests_part(program, quick):
     total = 30_000 if quick else 300_000
     rates = {}
-    for connections in (1, 8, 64):
+
+    def show(title, connections, in_flight, found):
+        print("%3d connections with %2d in flight, %s: %8.0f requests/s, %.1f us of the server's processors each"
+              % ((connections, in_flight, title) + found), flush=True)
+
+    for connections, in_flight in ((1, 1), (1, BATCH), (8, BATCH), (64, BATCH)):
+        count = total if in_flight > 1 else total // 10
         for workers in (1, 2, 4):
-            rates[connections, workers], each = rate(program, workers, connections, total)
-            print("%3d connections, %d workers: %8.0f requests/s, %.1f us of the server's processors each"
-                  % (connections, workers, rates[connections, workers], each), flush=True)
-    print("64 connections by 1, with 4 workers: %.2f" % (rates[64, 4] / rates[1, 4]))
+            found = rate(Server(program, workers), asked_by, connections, count, in_flight)
+            rates[connections, in_flight, workers] = found[0]
+            show("%d workers" % workers, connections, in_flight, found)
+        show("the floor", connections, in_flight, rate(Echo(), echoed_by, connections, count, in_flight))
+    print("64 connections by 1, with 4 workers: %.2f" % (rates[64, BATCH, 4] / rates[1, BATCH, 4]))
     return True
 
 
@@ -116,7 +169,7 @@ def woken_part(program, quick):
             client.send(diagnosed(i, "small.proto"))
             client.bodies(1)
         spent[workers] = (server.seconds() - seconds) / count * 1e6
-        print("one small request at a time, %2d workers: %6.1f us of the server's processors each, %.1f sleeps of its threads"
+        print("one small request in flight, %2d workers: %6.1f us of the server's processors each, %.1f sleeps of its threads"
               % (workers, spent[workers], (server.switches() - switches) / count), flush=True)
         client.end()
         server.stop()
@@ -272,7 +325,7 @@ def flow_part(program, quick):
 def lazy_part(program, quick):
     total = 10_000 if quick else 100_000
     server = Server(program, 2)
-    shares = [(server.port, ["c%d" % i], total // (4 * BATCH)) for i in range(4)]
+    shares = [(server.port, ["c%d" % i], total // (4 * BATCH), BATCH) for i in range(4)]
     alone, found = together(asked_by, shares)
     lazy = Connection(server.port)
     lazy.begin(opened("lazy.proto", "message M { int32 a = 0; }\n" * 2_000))

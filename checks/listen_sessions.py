@@ -1,13 +1,18 @@
-"""Rows of `checks/listen.py`: which connections become sessions, when the port is closed, and how sessions linger."""
+"""Rows of `checks/listen.py`: which connections become sessions, what a late reader gets, when the port is closed, and how sessions
+linger."""
+import fcntl
 import functools
+import json
 import socket
+import struct
+import termios
 import time
 
 from listen_client import Listener
-from messages import FIRST, opened
+from messages import FIRST, diagnosed, opened
 from server_process import LONGEST, Failed, check, end_servers, uri_of
 from stdio_client import codes
-from stdio_lists import BAD
+from stdio_lists import BAD, HEAD
 
 # The clients that may be open, and the sessions that may linger.
 MOST_OPEN = 64
@@ -19,6 +24,11 @@ LINGERING = 2.0
 MORE_THAN_HELD = 1 << 23
 # How often a row is tried that has to be faster than those times.
 ATTEMPTS = 10
+# Requests whose replies, every other one of 16,384 bytes or more, are more than that by far.
+LATE = 600
+LONG_BAD = HEAD + "message M { int32 a = 0; }\n" * 80
+# For how long nothing more has to come until nothing more is expected, in seconds.
+QUIET = 0.3
 TURNED_AWAY = "[WARN  pq_server] a connection was turned away: 64 clients are open"
 NO_LENGTH = "[WARN  pq_server] client %d: the header part has no Content-Length"
 
@@ -118,6 +128,34 @@ def be_refused(server):
             pass
         time.sleep(0.02)
     raise Failed("the port is open after the last session")
+
+
+# ---- replies
+
+
+def late_reader(place):
+    """A client that reads once its requests are sent and its output has ended gets the reply of each, in order."""
+    server = Listener(place, "--sessions", "1")
+    client = server.begun()
+    client.send(opened("long.proto", LONG_BAD) + opened("a.proto", BAD))
+    client.send(b"".join(diagnosed(label, ("a.proto", "long.proto")[label % 2]) for label in range(LATE)))
+    client.socket.shutdown(socket.SHUT_WR)
+    # The writer of the session waits for room then, and the outbox and the window are full.
+    before = -1
+    while (held := bytes_held(client.socket)) != before:
+        before = held
+        time.sleep(QUIET)
+    for label in range(LATE):
+        reply = json.loads(client.bodies(1)[0])
+        check((reply["id"], len(reply["result"]["items"]) > 1), (label, label % 2 == 1), "the next reply")
+    client.be_ended("after the last reply")
+    client.close()
+    server.end()
+
+
+def bytes_held(stream):
+    """How many bytes have come on a connection that were not read."""
+    return struct.unpack("i", fcntl.ioctl(stream, termios.FIONREAD, bytes(4)))[0]
 
 
 # ---- lingering

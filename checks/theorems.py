@@ -2,7 +2,7 @@
 """Writes the tables of docs/theorems/: of each crate the public functions, the clauses of their contracts, and what these say.
 
 Functions and clauses come from the source. What a clause says is the comment right above it. A comment that begins with names of
-clauses, as "`some`, `none`: The run that holds the key.", says it of these. A clause without a comment keeps the text of its page.
+clauses, as "`some`, `none`: The run that holds the key.", says it of these.
 
 A row has the functions and clauses of one text. It keeps its place on the page, and a new one comes last. A row whose function or
 clause is gone is dropped. Of a function that is not public a page has only the clauses that it has already. Between tables a page is
@@ -138,13 +138,13 @@ class Page:
         self.tables = [part for part in self.parts if isinstance(part, list)]
 
     def stored(self):
-        """Of each function and clause the table that has it, the row and the place in it, and what it says."""
+        """Of each function and clause the table that has it, and the row and the place in it."""
         found = {}
         for number, table in enumerate(self.tables):
             for at, row in enumerate(table):
                 for place, function in enumerate(row.functions):
                     for clause in row.clauses:
-                        found.setdefault((function, clause), (number, (at, place), row.text))
+                        found.setdefault((function, clause), (number, (at, place)))
         return found
 
 
@@ -184,11 +184,11 @@ def written(text, functions, say):
             there = stored.get((name, clause))
             if not there and name not in public:
                 continue
-            said = function.texts.get(clause) or (there[2] if there else None)
+            said = function.texts.get(clause)
             if said and "|" in said:
                 say("%s: the text of `%s` has a `|`, which ends a cell" % (name, clause))
             elif said:
-                number, at = there[:2] if there else (last, (len(stored), 0))
+                number, at = there or (last, (len(stored), 0))
                 tables[number].append(((at, order), name, clause, said))
             elif (name, clause) in page.untold:
                 untold.setdefault(name, []).append(clause)

@@ -11,12 +11,12 @@ use Rattle.pq_checks.specs.Answers.{CheckWords, AsksStates, AsksNext, AsksLinks,
 use Rattle.pq_checks.specs.Surroundings.{state_of}
 use Rattle.pq_checks.specs.aux.Gathering.{checked_of}
 use Rattle.pq_checks.specs.aux.Queries.{link_next, staged, placed, link_follows, link_placed, check_starts, check_advances}
-use Rattle.pq_checks.specs.declared.checked.CheckPart.{CheckPart}
-use Rattle.pq_checks.specs.declared.checked.CheckPart.TheVariants.{ReadItems, ReadImports, ReadLinks, ReadDefs, ReadScope, ReadReferences, ReadState, ReadNext}
-use Rattle.pq_checks.specs.declared.fault.Fault.{Fault}
-use Rattle.pq_checks.specs.declared.gathered.Known.{Known}
-use Rattle.pq_checks.specs.declared.gathered.LinkedFile.{LinkedFile}
-use Rattle.pq_checks.specs.declared.surroundings.Imported.{Imported}
+use Rattle.pq_checks.specs.declared.queries.checked.CheckPart.{CheckPart}
+use Rattle.pq_checks.specs.declared.queries.checked.CheckPart.TheVariants.{ReadItems, ReadImports, ReadLinks, ReadDefs, ReadScope, ReadReferences, ReadState, ReadNext}
+use Rattle.pq_checks.specs.declared.errors.fault.Fault.{Fault}
+use Rattle.pq_checks.specs.declared.queries.gathered.Known.{Known}
+use Rattle.pq_checks.specs.declared.queries.gathered.LinkedFile.{LinkedFile}
+use Rattle.pq_checks.specs.declared.around.surroundings.Imported.{Imported}
 
 module _ {K A : Type 0} (w : CheckWords K A) where
   abbrev pub advances : CheckPart → A → Turn K CheckPart (List Fault)

@@ -1,7 +1,7 @@
 -- In every rule set in which the queries of checks and of diagnostics are embedded beside those of a
 -- schema, what the sources say of the errors of a file is the answer of its checks: the other half
 -- of the law `checks_in_rules`. Each file has an answer, and the sources say one thing of its errors.
-use Rattle.std.proofs.Common.{◌≡◌, ℕ, ◌<◌, List, [], ◌∷◌, map, Option, Some, None, refl, sym, ap, subst, ◌∙◌, inl, inr, arith}
+use Rattle.std.proofs.Common.{◌≡◌, ℕ, ◌<◌, Bool, true, false, List, [], ◌∷◌, map, Option, Some, None, refl, sym, ap, subst, ◌∙◌, inl, inr, arith}
 use Rattle.std.specs.Prelude.{unwrap_or}
 use Rattle.pq_inputs.specs.Sources.{Sources}
 use Rattle.pq_rules.specs.declared.turn.Answer.{Answer}
@@ -11,31 +11,32 @@ use Rattle.pq_rules.specs.Value.{Means}
 use Rattle.pq_rules.proofs.Uniqueness.{means_one}
 use Rattle.pq_links.specs.Files.{graph_of, items_in, read_in}
 use Rattle.pq_links.specs.ImportGraph.{Graph, file_of, IsRingOf}
+use Rattle.pq_links.specs.declared.files.ParsedFile.{ParsedFile}
 use Rattle.pq_links.specs.declared.links.Import.{Import}
 use Rattle.pq_links.proofs.GraphLemmas.{good_bad, next_one}
 use Rattle.pq_links.proofs.NameKinds.{IfImportsIn}
 use Rattle.pq_schema.specs.Compile.{IsScope, AreResolved}
 use Rattle.pq_schema.specs.ScopeContents.{Scope}
 use Rattle.pq_schema.specs.SchemaSum.{SchemaSum, SchemaMeans}
-use Rattle.pq_schema.specs.declared.definitions.Definition.{Definition}
-use Rattle.pq_schema.specs.declared.resolved.ResolvedReference.{ResolvedReference}
-use Rattle.pq_schema.specs.declared.scope.FileDefs.{FileDefs}
+use Rattle.pq_schema.specs.declared.define.definitions.Definition.{Definition}
+use Rattle.pq_schema.specs.declared.queries.resolved.ResolvedReference.{ResolvedReference}
+use Rattle.pq_schema.specs.declared.scope.scope.FileDefs.{FileDefs}
 use Rattle.pq_schema.proofs.BadFiles.{ring_bad}
 use Rattle.pq_rules.specs.Relations.{Each}
 use Rattle.pq_checks.specs.Answers.{CheckWords}
 use Rattle.pq_checks.specs.ChecksSum.{ChecksSum, ChecksMeans, words_of}
 use Rattle.pq_checks.specs.Compile.{AreSurroundings, IsRingAt, AreFaults, file_faults}
-use Rattle.pq_checks.specs.Diagnostics.{AreDiagnostics, diagnosed}
+use Rattle.pq_checks.specs.Diagnostics.{AreDiagnostics, diagnosed, has_tree}
 use Rattle.pq_checks.specs.Surroundings.{Surroundings, other_files}
 use Rattle.pq_checks.specs.aux.CheckKinds.{AsksIn, CheckPartIn, check_starts_in, check_advances_in}
-use Rattle.pq_checks.specs.aux.DiagnosticsTurns.{diagnostics_level, diagnostics_starts, diagnostics_advances, diagnostics_left, diagnostics_falls}
+use Rattle.pq_checks.specs.aux.DiagnosticsTurns.{diagnostics_level, diagnostics_starts, diagnostics_advances, diagnostics_left, diagnostics_falls, file_turn}
 use Rattle.pq_checks.specs.aux.Falls.{check_falls}
 use Rattle.pq_checks.specs.aux.Queries.{check_level, check_left, check_starts, check_advances}
-use Rattle.pq_checks.specs.declared.fault.Fault.{Fault}
-use Rattle.pq_checks.specs.declared.diagnostic.Diagnosed.{Diagnosed}
-use Rattle.pq_checks.specs.declared.diagnostics.DiagnosticsPart.{DiagnosticsPart}
-use Rattle.pq_checks.specs.declared.diagnostics.DiagnosticsPart.TheVariants.{ReadChecks, ReadFile}
-use Rattle.pq_checks.specs.declared.surroundings.Imported.{Imported}
+use Rattle.pq_checks.specs.declared.errors.fault.Fault.{Fault}
+use Rattle.pq_checks.specs.declared.errors.diagnostic.Diagnosed.{Diagnosed}
+use Rattle.pq_checks.specs.declared.queries.diagnostics.DiagnosticsPart.{DiagnosticsPart}
+use Rattle.pq_checks.specs.declared.queries.diagnostics.DiagnosticsPart.TheVariants.{ReadChecks, ReadFile}
+use Rattle.pq_checks.specs.declared.around.surroundings.Imported.{Imported}
 use Rattle.pq_checks.proofs.EachAnswered.{Asks, HasAnswer, has_answer}
 use Rattle.pq_checks.proofs.ChecksMeaning.{checks_are, diagnostics_are}
 use Rattle.pq_checks.proofs.Existence.{linked_or_ring, resolved_exist, scope_exists}
@@ -168,17 +169,24 @@ module _ {K P V : Type 0} (m : Instance K P V) (files : Sources) (s : SchemaSum 
   below : (k : K) (n : ℕ) → m.level k ≡ n → n < diagnostics_level → m.level k < diagnostics_level
   below k n e l = subst (λ (i : ℕ). i < diagnostics_level) (sym e) l
 
+  file_asks : (f : List ℕ) (file : ParsedFile) (tree : Bool) → Asks m diagnostics_level (λ (x : DiagnosticsPart). Unit {0}) (file_turn c.checks.key f file tree)
+  file_asks f file true = ((below (c.checks.key f) check_level (c.checks.embeds.level_is f) (omega arith), checks_answer f), tt)
+  file_asks f file false = tt
+
   diagnostics_asks : (q : DiagnosticsPart) (a : Answer K V)
-      → Asks m diagnostics_level (λ (x : DiagnosticsPart). Unit {0}) (diagnostics_advances s.parse.key (c.checks.read a) (s.parse.read a) q)
-  diagnostics_asks (ReadChecks f) a = ((below (s.parse.key f) 1 (s.parse.embeds.level_is f) (omega arith), (_, (t.parse f _).1 refl)), tt)
-  diagnostics_asks (ReadFile fs) a = tt
+      → Asks m diagnostics_level (λ (x : DiagnosticsPart). Unit {0}) (diagnostics_advances c.checks.key (c.checks.read a) (s.parse.read a) q)
+  diagnostics_asks (ReadFile f) a = file_asks f (s.parse.read a) (has_tree (s.parse.read a))
+  diagnostics_asks (ReadChecks file) a = tt
 
   pub diagnostics_answer : (f : List ℕ) → Answered (c.diagnostics.key f)
   diagnostics_answer f =
-      has_answer m c.diagnostics.key c.diagnostics.part c.diagnostics.value diagnostics_level (diagnostics_starts c.checks.key)
-      (λ q a. diagnostics_advances s.parse.key (c.checks.read a) (s.parse.read a) q) c.diagnostics.embeds (omega arith)
-      diagnostics_left (λ q a k r e. diagnostics_falls s.parse.key (c.checks.read a) (s.parse.read a) q k r e) (λ q. Unit {0})
-      (λ x. ((below (c.checks.key x) check_level (c.checks.embeds.level_is x) (omega arith), checks_answer x), tt)) (λ q a p. diagnostics_asks q a) f
+      has_answer m c.diagnostics.key c.diagnostics.part c.diagnostics.value diagnostics_level (diagnostics_starts s.parse.key)
+      (λ q a. diagnostics_advances c.checks.key (c.checks.read a) (s.parse.read a) q) c.diagnostics.embeds (omega arith)
+      diagnostics_left (λ q a k r e. diagnostics_falls c.checks.key (c.checks.read a) (s.parse.read a) q k r e) (λ q. Unit {0})
+      (λ x. ((below (s.parse.key x) 1 (s.parse.embeds.level_is x) (omega arith), (_, (t.parse x _).1 refl)), tt)) (λ q a p. diagnostics_asks q a) f
+
+  faults_exist : (f : List ℕ) → (fs : List Fault) × AreFaults files f fs
+  faults_exist f = let b = checks_answer f in let is = checks_are m files s c t f b.0 b.1 in (is.0, is.2)
 
   -- ---- what the sources say is the answer
 
@@ -191,11 +199,11 @@ module _ {K P V : Type 0} (m : Instance K P V) (files : Sources) (s : SchemaSum 
   means_diagnostics : (f : List ℕ) (a : Answer K V) → (d : Diagnosed) × (a ≡ Value (c.diagnostics.value d)) × AreDiagnostics files f d → Means m (c.diagnostics.key f) a
   means_diagnostics f a p =
       let b = diagnostics_answer f in
-      let is = diagnostics_are m files s c t f b.0 b.1 in
+      let is = diagnostics_are m files s c t f b.0 (p.2.0, p.2.1) b.1 in
       subst (Means m (c.diagnostics.key f)) (is.1 ∙ ap (λ (x : Diagnosed). Value (c.diagnostics.value x)) (diagnostics_one f is.0 p.0 is.2 p.2) ∙ sym p.1) b.1
 
   pub checks_mean : ChecksMeans m files s c
   checks_mean = record {
     checks = λ f a. (checks_are m files s c t f a, means_checks f a);
-    diagnostics = λ f a. (diagnostics_are m files s c t f a, means_diagnostics f a);
+    diagnostics = λ f a. (diagnostics_are m files s c t f a (faults_exist f), means_diagnostics f a);
   }

@@ -1,6 +1,6 @@
 -- In every rule set in which the query of checks is embedded beside those of a schema, each answer
 -- of the checks of a file is what the sources say of its errors.
-use Rattle.std.proofs.Common.{◌≡◌, ℕ, ◌<◌, List, [], ◌∷◌, ◌++◌, map, Option, Some, None, refl, sym, ap, subst, ◌∙◌, inl, inr, arith}
+use Rattle.std.proofs.Common.{◌≡◌, ℕ, ◌<◌, Bool, true, false, List, [], ◌∷◌, ◌++◌, map, Option, Some, None, refl, sym, ap, subst, ◌∙◌, inl, inr, arith}
 use Rattle.std.specs.Prelude.{slice_get, unwrap_or}
 use Rattle.pq_inputs.specs.Sources.{Sources}
 use Rattle.pq_rules.specs.declared.turn.Turn.{Turn}
@@ -17,8 +17,11 @@ use Rattle.pq_links.specs.Files.{read_in, items_in, graph_of}
 use Rattle.pq_links.specs.ImportGraph.{Graph, file_of, imported, IsGood, IsBad, IsNext, IsRingOf}
 use Rattle.pq_links.specs.LinkedKeys.{LinkedIs}
 use Rattle.pq_links.specs.declared.file_items.FileItems.{FileItems}
+use Rattle.pq_links.specs.declared.files.ParsedFile.{ParsedFile}
+use Rattle.pq_links.specs.declared.files.ParsedFile.TheVariants.{Absent, Present}
 use Rattle.pq_links.specs.declared.links.Import.{Import}
 use Rattle.pq_links.proofs.GraphLemmas.{ends_or_walks}
+use Rattle.pq_syntax.specs.declared.fault.Parsed.TheVariants.{Tree, Fault as SyntaxFault}
 use Rattle.pq_schema.specs.Contents.{Defs}
 use Rattle.pq_schema.specs.Compile.{defs_at, AreResolved}
 use Rattle.pq_schema.specs.SchemaSum.{SchemaSum, SchemaMeans}
@@ -26,18 +29,18 @@ use Rattle.pq_schema.proofs.BadFiles.{ring_bad}
 use Rattle.pq_checks.specs.Answers.{CheckWords, AsksStates, AsksNext, AsksLinks, if_ring, surroundings_by}
 use Rattle.pq_checks.specs.ChecksSum.{ChecksSum, words_of}
 use Rattle.pq_checks.specs.Compile.{AreSurroundings, IsRingAt, file_faults, AreFaults}
-use Rattle.pq_checks.specs.Diagnostics.{diagnosed, AreDiagnostics}
+use Rattle.pq_checks.specs.Diagnostics.{AsksErrors, diagnosed, has_tree, AreDiagnostics}
 use Rattle.pq_checks.specs.Surroundings.{state_of, other_files}
-use Rattle.pq_checks.specs.aux.DiagnosticsTurns.{diagnostics_level, diagnostics_starts, diagnostics_advances}
+use Rattle.pq_checks.specs.aux.DiagnosticsTurns.{diagnostics_level, diagnostics_starts, diagnostics_advances, file_turn}
 use Rattle.pq_checks.specs.aux.Queries.{check_level, link_next, staged, placed, with_state, link_follows, link_placed, check_starts, check_advances}
-use Rattle.pq_checks.specs.declared.checked.CheckPart.{CheckPart}
-use Rattle.pq_checks.specs.declared.checked.CheckPart.TheVariants.{ReadItems, ReadImports, ReadLinks, ReadDefs, ReadScope, ReadReferences, ReadState, ReadNext}
-use Rattle.pq_checks.specs.declared.gathered.Known.{Known}
-use Rattle.pq_checks.specs.declared.diagnostic.Diagnosed.{Diagnosed}
-use Rattle.pq_checks.specs.declared.diagnostics.DiagnosticsPart.{DiagnosticsPart}
-use Rattle.pq_checks.specs.declared.diagnostics.DiagnosticsPart.TheVariants.{ReadChecks, ReadFile as ReadParsed}
-use Rattle.pq_checks.specs.declared.fault.Fault.{Fault}
-use Rattle.pq_checks.specs.declared.surroundings.Imported.{Imported}
+use Rattle.pq_checks.specs.declared.queries.checked.CheckPart.{CheckPart}
+use Rattle.pq_checks.specs.declared.queries.checked.CheckPart.TheVariants.{ReadItems, ReadImports, ReadLinks, ReadDefs, ReadScope, ReadReferences, ReadState, ReadNext}
+use Rattle.pq_checks.specs.declared.queries.gathered.Known.{Known}
+use Rattle.pq_checks.specs.declared.errors.diagnostic.Diagnosed.{Diagnosed}
+use Rattle.pq_checks.specs.declared.queries.diagnostics.DiagnosticsPart.{DiagnosticsPart}
+use Rattle.pq_checks.specs.declared.queries.diagnostics.DiagnosticsPart.TheVariants.{ReadChecks, ReadFile as ReadParsed}
+use Rattle.pq_checks.specs.declared.errors.fault.Fault.{Fault}
+use Rattle.pq_checks.specs.declared.around.surroundings.Imported.{Imported}
 use Rattle.pq_checks.proofs.ByAnswers.{checks_given}
 use Rattle.pq_checks.proofs.DiagnosticsGiven.{diagnostics_given}
 
@@ -82,6 +85,13 @@ good_more g x hs (Some h) good n = (x ∷ n.0, n.1, ap (λ (ys : List (List ℕ)
 ring_at : (g : Graph) (f : List ℕ) (ring : List (List ℕ)) (next : Option (List ℕ)) → IsRingOf g f ring → NextOf g (imported g f) next → IsRingAt g f (Some ring) next
 ring_at g f ring None r n = not_all_good g f ring r n
 ring_at g f ring (Some h) r n = (r, n)
+
+-- ---- a file without a tree has the same diagnostics whatever its errors are
+
+treeless : (fs xs : List Fault) (file : ParsedFile) → has_tree file ≡ false → diagnosed fs file ≡ diagnosed xs file
+treeless fs xs Absent e = refl
+treeless fs xs (Present (Tree nodes) lines) e = cc
+treeless fs xs (Present (SyntaxFault span c) lines) e = refl
 
 module _ {K P V : Type 0} (m : Instance K P V) (files : Sources) (s : SchemaSum m files) (c : ChecksSum m files s) (t : SchemaMeans m files s) where
   abbrev w : CheckWords K (Answer K V)
@@ -225,22 +235,36 @@ module _ {K P V : Type 0} (m : Instance K P V) (files : Sources) (s : SchemaSum 
   parsed_is f a h = ap s.parse.read ((t.parse f a).0 h) ∙ s.parse.back (read_in files f)
 
   abbrev turns : DiagnosticsPart → Answer K V → Turn K DiagnosticsPart Diagnosed
-  turns q a = diagnostics_advances s.parse.key (c.checks.read a) (s.parse.read a) q
+  turns q a = diagnostics_advances c.checks.key (c.checks.read a) (s.parse.read a) q
+
+  file_below : (f : List ℕ) (file : ParsedFile) (tree : Bool) → AsksBelow m diagnostics_level (file_turn c.checks.key f file tree)
+  file_below f file true = ask_below m diagnostics_level (c.checks.key f) _ (let eight = c.checks.embeds.level_is f in omega arith)
+  file_below f file false = done_below m diagnostics_level _
 
   turns_below : (p : DiagnosticsPart) (a : Answer K V) → AsksBelow m diagnostics_level (turns p a)
-  turns_below (ReadChecks f) a = ask_below m diagnostics_level (s.parse.key f) _ (let one = s.parse.embeds.level_is f in omega arith)
-  turns_below (ReadParsed fs) a = done_below m diagnostics_level _
+  turns_below (ReadParsed f) a = file_below f (s.parse.read a) (has_tree (s.parse.read a))
+  turns_below (ReadChecks file) a = done_below m diagnostics_level _
 
-  starts_below : (f : List ℕ) → AsksBelow m diagnostics_level (diagnostics_starts c.checks.key f)
-  starts_below f = ask_below m diagnostics_level (c.checks.key f) _ (let eight = c.checks.embeds.level_is f in omega arith)
+  starts_below : (f : List ℕ) → AsksBelow m diagnostics_level (diagnostics_starts s.parse.key f)
+  starts_below f = ask_below m diagnostics_level (s.parse.key f) _ (let one = s.parse.embeds.level_is f in omega arith)
 
-  pub diagnostics_are : (f : List ℕ) (a : Answer K V) → Means m (c.diagnostics.key f) a → (d : Diagnosed) × (a ≡ Value (c.diagnostics.value d)) × AreDiagnostics files f d
-  diagnostics_are f a h =
-      let r = lower_runs m c.diagnostics.key c.diagnostics.part c.diagnostics.value diagnostics_level (diagnostics_starts c.checks.key) turns c.diagnostics.embeds (omega arith)
-      (λ x. runs_below m diagnostics_level turns turns_below (diagnostics_starts c.checks.key x) (starts_below x)) f a h in
+  -- the errors that were asked are those of the file; without a tree they do not matter
+  errors_are : (f : List ℕ) (file : ParsedFile) (tree : Bool) (es : Trace K V) (fs : List Fault) → has_tree file ≡ tree
+      → (xs : List Fault) × AreFaults files f xs → AsksErrors c.checks.key c.checks.read f tree es fs → Each (λ e. Means m e.0 e.1) es
+      → (xs : List Fault) × AreFaults files f xs × (diagnosed fs file ≡ diagnosed xs file)
+  errors_are f file true es fs tree exist asks told =
+      let means = subst (λ (ys : Trace K V). Each (λ e. Means m e.0 e.1) ys) asks.1 told in
+      let x = checks_are f asks.0 means.0 in
+      (x.0, x.2, ap (λ (ys : List Fault). diagnosed ys file) (asks.2 ∙ ap c.checks.read x.1 ∙ c.checks.back x.0))
+  errors_are f file false es fs tree exist asks told = (exist.0, exist.1, treeless fs exist.0 file tree)
+
+  pub diagnostics_are : (f : List ℕ) (a : Answer K V) → (fs : List Fault) × AreFaults files f fs → Means m (c.diagnostics.key f) a
+      → (d : Diagnosed) × (a ≡ Value (c.diagnostics.value d)) × AreDiagnostics files f d
+  diagnostics_are f a exist h =
+      let r = lower_runs m c.diagnostics.key c.diagnostics.part c.diagnostics.value diagnostics_level (diagnostics_starts s.parse.key) turns c.diagnostics.embeds (omega arith)
+      (λ x. runs_below m diagnostics_level turns turns_below (diagnostics_starts s.parse.key x) (starts_below x)) f a h in
       let given = diagnostics_given c.checks.key s.parse.key c.checks.read s.parse.read f r.0 r.1 r.2 in
-      let told = subst (λ (xs : Trace K V). Each (λ e. Means m e.0 e.1) xs) given.2 r.4 in
-      let x = checks_are f given.0 told.0 in
-      let faults : c.checks.read given.0 ≡ x.0 = ap c.checks.read x.1 ∙ c.checks.back x.0 in
-      let file = parsed_is f given.1 told.1.0 in
-      (r.1, r.3, (x.0, x.2, given.3 ∙ ap (λ (fs : List Fault). diagnosed fs (s.parse.read given.1)) faults ∙ ap (diagnosed x.0) file))
+      let told = subst (λ (xs : Trace K V). Each (λ e. Means m e.0 e.1) xs) given.3 r.4 in
+      let read = s.parse.read given.0 in
+      let x = errors_are f read (has_tree read) given.1 given.2 refl exist given.4 told.1 in
+      (r.1, r.3, (x.0, x.1, given.5 ∙ x.2 ∙ ap (diagnosed x.0) (parsed_is f given.0 told.0)))

@@ -16,12 +16,12 @@ use denote.Enum.Bare.{Bare}
 use denote.Enum.Compared.{by}
 use denote.Struct.Field.{Field}
 use Rattle.pq_checks.specs.Codes.{code_text}
-use Rattle.pq_checks.specs.contracts.code as code
-use Rattle.pq_checks.specs.contracts.code.CodeOrd.TheImpl as code_order
-use Rattle.pq_checks.specs.contracts.diagnostic.DiagnosticOrd.TheImpl as derived
+use Rattle.pq_checks.specs.contracts.errors.code as code
+use Rattle.pq_checks.specs.contracts.errors.code.CodeOrd.TheImpl as code_order
+use Rattle.pq_checks.specs.contracts.errors.diagnostic.DiagnosticOrd.TheImpl as derived
 use Rattle.pq_checks.specs.DiagnosticOrder.{diagnostic_cmp}
-use Rattle.pq_checks.specs.declared.diagnostic.Diagnostic.{Diagnostic}
-use Rattle.pq_checks.specs.declared.code.Code.{Code}
+use Rattle.pq_checks.specs.declared.errors.diagnostic.Diagnostic.{Diagnostic}
+use Rattle.pq_checks.specs.declared.errors.code.Code.{Code}
 use Rattle.pq_checks.proofs.PrintedOrder.{codes_order, text_cmp, texts_total}
 
 exact_choice : (Fss : List (List Field)) → Bare Fss → (c d : Choice Fss) → by Less Greater Fss (points Equal Fss) c d ≡ Equal → c ≡ d

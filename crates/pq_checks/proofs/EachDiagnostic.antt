@@ -9,8 +9,8 @@ use Rattle.pq_syntax.specs.declared.fault.Parsed.TheVariants.{Tree, Fault as Syn
 use Rattle.pq_syntax.specs.declared.tree.Node.{Node}
 use Rattle.pq_links.specs.Place.{place}
 use Rattle.pq_checks.specs.Diagnostics.{IsDiagnostic, at_span, diagnostic_at, parsed_diagnostics, syntax_diagnostic}
-use Rattle.pq_checks.specs.declared.diagnostic.Diagnostic.{Diagnostic}
-use Rattle.pq_checks.specs.declared.fault.Fault.{Fault}
+use Rattle.pq_checks.specs.declared.errors.diagnostic.Diagnostic.{Diagnostic}
+use Rattle.pq_checks.specs.declared.errors.fault.Fault.{Fault}
 use Rattle.pq_checks.proofs.DiagnosticsInOrder.{diagnostics_exact, diagnostics_total}
 use Rattle.pq_checks.proofs.EachLine.{contains_head, head_or_tail, none_said, only_one, tail}
 use Rattle.pq_checks.proofs.OneOrder.{members_in_order}

@@ -1,28 +1,31 @@
 -- What the checks look at in a tree is at parts of its statements.
-use Rattle.std.proofs.Common.{◌≡◌, ℕ, zero, suc, ◌+◌, Bool, true, false, cond, List, [], ◌∷◌, map, Option, Some, None, refl, sym, ap, subst, ◌∙◌, inl, inr, arith}
-use Rattle.std.specs.Prelude.{◌⊎◌, Contains, flat_map, option_and_then, slice_get}
+use Rattle.std.proofs.Common.{◌≡◌, ℕ, zero, suc, ◌+◌, Bool, true, false, cond, List, [], ◌∷◌, map, Option, Some, true≢false, refl, sym, ap, subst, ◌∙◌, inl, inr, arith}
+use Rattle.std.specs.Prelude.{◌⊎◌, Contains, option_and_then, slice_get}
 use Rattle.std.specs.List.{enumerate_from}
 use Rattle.std.specs.Option.{option_map}
+use Rattle.std.proofs.lemmas.List.Folds.{flat_map-map}
 use Rattle.pq_lex.specs.declared.token.Span.{Span}
 use Rattle.pq_syntax.specs.Places.{Item, Place, enclosing, places, places_after}
 use Rattle.pq_syntax.specs.declared.parts.Range.{Range}
 use Rattle.pq_syntax.specs.declared.parts.Setting.{Setting}
 use Rattle.pq_syntax.specs.declared.tree.Node.{Node}
 use Rattle.pq_syntax.specs.declared.tree.Statement.{Statement}
-use Rattle.pq_syntax.specs.declared.tree.Statement.TheVariants.{Import, Package, Option as OptionStatement, Message, Field, MapField, Oneof, ReservedNumbers, ReservedNames, Enum, Value, Service, Method, Extend}
+use Rattle.pq_syntax.specs.declared.tree.Statement.TheVariants.{Import, Package, Option as OptionStatement, Message, Field, MapField, Oneof, ReservedNumbers, Enum, Value, Service, Method}
 use Rattle.pq_links.specs.Place.{name_span, number_span, type_span, settings_of, ranges_of, span_at, place}
 use Rattle.pq_links.specs.declared.places.Part.{Part}
 use Rattle.pq_links.specs.declared.places.Part.TheVariants as part
 use Rattle.pq_links.specs.declared.places.TypePart.{TypePart}
 use Rattle.pq_links.specs.declared.places.TypePart.TheVariants as types
 use Rattle.pq_schema.specs.Definitions.{definitions_of, defined_at, defined_by, package_of, scope_in, named, entry_of}
-use Rattle.pq_schema.specs.References.{references_of, references_at, references_by, type_reference, is_one_of, scalars}
-use Rattle.pq_schema.specs.declared.definitions.Definition.{Definition}
-use Rattle.pq_schema.specs.declared.definitions.DefinitionKind.TheVariants as kinds
-use Rattle.pq_schema.specs.declared.references.Reference.{Reference}
-use Rattle.pq_checks.specs.Members.{Member, member_at, field_at, value_at, package_at, oneof_at, enum_at, range_at, reserved_range, ImportName, import_at, Assigned, assigned, constant_at, extend_at, each_at}
+use Rattle.pq_schema.specs.References.{references_of, references_at, references_by, is_one_of, scalars}
+use Rattle.pq_schema.specs.declared.define.definitions.Definition.{Definition}
+use Rattle.pq_schema.specs.declared.define.definitions.DefinitionKind.TheVariants as kinds
+use Rattle.pq_schema.specs.declared.search.references.Reference.{Reference}
+use Rattle.pq_checks.specs.Members.{Sited, sited_at, sited, is_of, of_kind_at, of_kind, Member, member_at, field_at, value_at, range_at, reserved_range, ImportName, import_at, Assigned, assigned, constant_at, each_at}
 use Rattle.pq_checks.specs.Owners.{Site, site_of}
-use Rattle.pq_checks.specs.declared.members.Reserved.{Reserved}
+use Rattle.pq_checks.specs.declared.tree.members.Kind.{Kind}
+use Rattle.pq_checks.specs.declared.tree.members.Kind.TheVariants as kind
+use Rattle.pq_checks.specs.declared.tree.members.Reserved.{Reserved}
 use Rattle.pq_checks.proofs.EachLine.{head_or_tail, none_said, only_one, said_of}
 
 -- `HasPart p n` is that the statement `n` has the part `p`
@@ -31,7 +34,7 @@ HasPart p n = (s : Span) × (span_at p n ≡ Some s)
 
 -- `HasPlace nodes item p` is that a file with the statements `nodes` has the part `p` of the item
 -- `item`
-abbrev pub HasPlace : List Node → ℕ → Part → Type 0
+unfoldable pub HasPlace : List Node → ℕ → Part → Type 0
 HasPlace nodes item p = (s : Span) × (place nodes item p ≡ Some s)
 
 -- ---- the statements of a file by their numbers
@@ -72,6 +75,7 @@ at_number nodes p h =
 
 -- a place of a file has the parts of its statement
 has_place : (nodes : List Node) (q : Place) (item : ℕ) (p : Part) → Contains (places nodes) q → item ≡ q.item.number → HasPart p q.item.node → HasPlace nodes item p
+unfolding HasPlace
 has_place nodes q item p among same has =
     (has.0, ap (λ (i : ℕ). place nodes i p) same ∙ ap (λ (o : Option Node). option_and_then (span_at p) o) (at_number nodes q among) ∙ has.1)
 
@@ -83,9 +87,9 @@ abbrev Keeps : {A : Type 0} → (Site → Statement → List A) → (A → ℕ) 
 Keeps {A = A} f item p = (s : Site) (n : Node) (y : A) → Contains (f s n.statement) y → (item y ≡ s.item) × HasPart (p y) n
 
 listed : {A : Type 0} (f : Site → Statement → List A) (item : A → ℕ) (p : A → Part) → Keeps f item p
-    → (nodes : List Node) (y : A) → Contains (each_at f nodes) y → HasPlace nodes (item y) (p y)
-listed f item p keeps nodes y h =
-    let r = said_of (λ (q : Place). f (site_of q) q.item.node.statement) (places nodes) y h in
+    → (nodes : List Node) (y : A) → Contains (each_at f (sited nodes)) y → HasPlace nodes (item y) (p y)
+listed {A = A} f item p keeps nodes y h =
+    let r = said_of (λ (q : Place). f (site_of q) q.item.node.statement) (places nodes) y (subst (λ (ys : List A). Contains ys y) (flat_map-map (λ (s : Sited). f s.0 s.1.statement) sited_at (places nodes)) h) in
     let k = keeps (site_of r.0) r.0.item.node y r.2 in
     has_place nodes r.0 (item y) (p y) r.1 k.0 k.1
 
@@ -117,24 +121,28 @@ value_parts s (Value name number options) m h =
     (item_of s m (member_at s name number) (only_one (member_at s name number) m h) refl, (name.span, refl), (number.span, refl))
 value_parts s _ m h = absurd (none_said m h)
 
-package_parts : (s : Site) (t : Statement) (i : ℕ) → Contains (package_at s t) i → (i ≡ s.item) × Named t
-unfolding name_span
-package_parts s (Package name) i h = (only_one s.item i h, (name.span, refl))
-package_parts s _ i h = absurd (none_said i h)
+of_kind_parts : (k : Kind) (s : Site) (t : Statement) (i : ℕ) → Contains (of_kind_at k s t) i → (i ≡ s.item) × (is_of t k ≡ true)
+of_kind_parts k s t i = by (is_of t k)
+  where
+    by : (b : Bool) → Contains (cond b (s.item ∷ []) []) i → (i ≡ s.item) × (b ≡ true)
+    by true h = (only_one s.item i h, refl)
+    by false h = absurd (none_said i h)
 
-oneof_parts : (s : Site) (t : Statement) (i : ℕ) → Contains (oneof_at s t) i → (i ≡ s.item) × Named t
-unfolding name_span
-oneof_parts s (Oneof name) i h = (only_one s.item i h, (name.span, refl))
-oneof_parts s _ i h = absurd (none_said i h)
+-- `has_name k` is whether the statements of the kind `k` have names
+abbrev pub has_name : Kind → Bool
+has_name kind.Extend = false
+has_name _ = true
 
-enum_parts : (s : Site) (t : Statement) (i : ℕ) → Contains (enum_at s t) i → (i ≡ s.item) × Named t
+of_kind_named : (k : Kind) (t : Statement) → has_name k ≡ true → is_of t k ≡ true → Named t
 unfolding name_span
-enum_parts s (Enum name) i h = (only_one s.item i h, (name.span, refl))
-enum_parts s _ i h = absurd (none_said i h)
-
-extend_parts : (s : Site) (t : Statement) (i : ℕ) → Contains (extend_at s t) i → i ≡ s.item
-extend_parts s (Extend kind) i h = only_one s.item i h
-extend_parts s _ i h = absurd (none_said i h)
+of_kind_named kind.Extend t has e = absurd (true≢false (sym has))
+of_kind_named k (Package name) has e = (name.span, refl)
+of_kind_named k (Message name) has e = (name.span, refl)
+of_kind_named k (Oneof name) has e = (name.span, refl)
+of_kind_named k (Enum name) has e = (name.span, refl)
+of_kind_named k (Service name) has e = (name.span, refl)
+of_kind_named k (Method name input output) has e = (name.span, refl)
+of_kind_named _ _ has e = absurd (true≢false (sym e))
 
 import_parts : (s : Site) (t : Statement) (i : ImportName) → Contains (import_at s t) i → (i.item ≡ s.item) × Named t
 unfolding name_span
@@ -217,48 +225,44 @@ constant_parts s _ a h = absurd (none_said a h)
 -- ---- the lists of a file
 
 module _ (nodes : List Node) where
-  pub field_number : (m : Member) → Contains (each_at field_at nodes) m → HasPlace nodes m.item part.Number
+  pub field_number : (m : Member) → Contains (each_at field_at (sited nodes)) m → HasPlace nodes m.item part.Number
   field_number m h =
       listed field_at (λ (x : Member). x.item) (λ (x : Member). part.Number)
       (λ s n x a. let k = field_parts s n.statement x a in (k.0, k.2)) nodes m h
 
-  pub field_name : (m : Member) → Contains (each_at field_at nodes) m → HasPlace nodes m.item part.Name
+  pub field_name : (m : Member) → Contains (each_at field_at (sited nodes)) m → HasPlace nodes m.item part.Name
   field_name m h =
       listed field_at (λ (x : Member). x.item) (λ (x : Member). part.Name)
       (λ s n x a. let k = field_parts s n.statement x a in (k.0, k.1)) nodes m h
 
-  pub value_number : (m : Member) → Contains (each_at value_at nodes) m → HasPlace nodes m.item part.Number
+  pub value_number : (m : Member) → Contains (each_at value_at (sited nodes)) m → HasPlace nodes m.item part.Number
   value_number m h =
       listed value_at (λ (x : Member). x.item) (λ (x : Member). part.Number)
       (λ s n x a. let k = value_parts s n.statement x a in (k.0, k.2)) nodes m h
 
-  pub value_name : (m : Member) → Contains (each_at value_at nodes) m → HasPlace nodes m.item part.Name
+  pub value_name : (m : Member) → Contains (each_at value_at (sited nodes)) m → HasPlace nodes m.item part.Name
   value_name m h =
       listed value_at (λ (x : Member). x.item) (λ (x : Member). part.Name)
       (λ s n x a. let k = value_parts s n.statement x a in (k.0, k.1)) nodes m h
 
-  pub package_name : (i : ℕ) → Contains (each_at package_at nodes) i → HasPlace nodes i part.Name
-  package_name i h = listed package_at (λ (x : ℕ). x) (λ (x : ℕ). part.Name) (λ s n x a. package_parts s n.statement x a) nodes i h
+  pub of_kind_name : (k : Kind) (i : ℕ) → has_name k ≡ true → Contains (of_kind k (sited nodes)) i → HasPlace nodes i part.Name
+  of_kind_name k i has h =
+      listed (of_kind_at k) (λ (x : ℕ). x) (λ (x : ℕ). part.Name)
+      (λ s n x a. let q = of_kind_parts k s n.statement x a in (q.0, of_kind_named k n.statement has q.1)) nodes i h
 
-  pub oneof_name : (i : ℕ) → Contains (each_at oneof_at nodes) i → HasPlace nodes i part.Name
-  oneof_name i h = listed oneof_at (λ (x : ℕ). x) (λ (x : ℕ). part.Name) (λ s n x a. oneof_parts s n.statement x a) nodes i h
+  pub of_kind_whole : (k : Kind) (i : ℕ) → Contains (of_kind k (sited nodes)) i → HasPlace nodes i part.Whole
+  of_kind_whole k i h =
+      listed (of_kind_at k) (λ (x : ℕ). x) (λ (x : ℕ). part.Whole) (λ s n x a. let q = of_kind_parts k s n.statement x a in (q.0, (n.span, refl))) nodes i h
 
-  pub enum_name : (i : ℕ) → Contains (each_at enum_at nodes) i → HasPlace nodes i part.Name
-  enum_name i h = listed enum_at (λ (x : ℕ). x) (λ (x : ℕ). part.Name) (λ s n x a. enum_parts s n.statement x a) nodes i h
-
-  pub extend_whole : (i : ℕ) → Contains (each_at extend_at nodes) i → HasPlace nodes i part.Whole
-  extend_whole i h =
-      listed extend_at (λ (x : ℕ). x) (λ (x : ℕ). part.Whole) (λ s n x a. (extend_parts s n.statement x a, (n.span, refl))) nodes i h
-
-  pub import_name : (i : ImportName) → Contains (each_at import_at nodes) i → HasPlace nodes i.item part.Name
+  pub import_name : (i : ImportName) → Contains (each_at import_at (sited nodes)) i → HasPlace nodes i.item part.Name
   import_name i h =
       listed import_at (λ (x : ImportName). x.item) (λ (x : ImportName). part.Name) (λ s n x a. import_parts s n.statement x a) nodes i h
 
-  pub range_itself : (r : Reserved) → Contains (each_at range_at nodes) r → HasPlace nodes r.item (part.Range r.nth)
+  pub range_itself : (r : Reserved) → Contains (each_at range_at (sited nodes)) r → HasPlace nodes r.item (part.Range r.nth)
   range_itself r h =
       listed range_at (λ (x : Reserved). x.item) (λ (x : Reserved). part.Range x.nth) (λ s n x a. range_parts s n.statement x a) nodes r h
 
-  pub constant_itself : (c : Assigned) → Contains (each_at constant_at nodes) c → HasPlace nodes c.item (part.Constant c.nth)
+  pub constant_itself : (c : Assigned) → Contains (each_at constant_at (sited nodes)) c → HasPlace nodes c.item (part.Constant c.nth)
   constant_itself c h =
       listed constant_at (λ (x : Assigned). x.item) (λ (x : Assigned). part.Constant x.nth) (λ s n x a. constant_parts s n.statement x a) nodes c h
 

@@ -1,7 +1,7 @@
--- The tree of a file has the place of each error of the file by the table.
+-- The tree of a file has the place of each error of the file by the table: one search goes through all
+-- lines, by a lemma for each form of what is said.
 use Rattle.std.proofs.Common.{◌≡◌, ℕ, Bool, true, false, cond, is_some, List, [], ◌∷◌, ◌++◌, map, take, Option, Some, None, true≢false, refl, sym, ap, subst, ◌∙◌, inl, inr}
-use Rattle.std.specs.Prelude.{◌⊎◌, Contains, codes, not, slice_get}
-use Rattle.std.specs.Str.{is_utf8}
+use Rattle.std.specs.Prelude.{◌⊎◌, Contains, slice_get}
 use Rattle.std.proofs.lemmas.List.Elements.{Contains-append_cases}
 use Rattle.pq_inputs.specs.Sources.{Sources}
 use Rattle.pq_lex.specs.declared.token.Span.{Span}
@@ -24,151 +24,108 @@ use Rattle.pq_schema.specs.Compile.{resolved_in}
 use Rattle.pq_schema.specs.Definitions.{definitions_of}
 use Rattle.pq_schema.specs.References.{references_of}
 use Rattle.pq_schema.specs.ScopeContents.{Scope}
-use Rattle.pq_schema.specs.declared.definitions.Definition.{Definition}
-use Rattle.pq_schema.specs.declared.references.Reference.{Reference}
-use Rattle.pq_schema.specs.declared.resolution.Resolution.{Resolution}
-use Rattle.pq_schema.specs.declared.resolution.Resolution.TheVariants as resolutions
-use Rattle.pq_schema.specs.declared.resolved.ResolvedReference.{ResolvedReference}
-use Rattle.pq_schema.specs.declared.scope.FileDefs.{FileDefs}
+use Rattle.pq_schema.specs.declared.define.definitions.Definition.{Definition}
+use Rattle.pq_schema.specs.declared.search.resolution.Resolution.{Resolution}
+use Rattle.pq_schema.specs.declared.search.resolution.Resolution.TheVariants as resolutions
+use Rattle.pq_schema.specs.declared.queries.resolved.ResolvedReference.{ResolvedReference}
 use Rattle.pq_checks.specs.Compile.{AreFaults, file_faults}
 use Rattle.pq_checks.specs.Diagnostics.{Stands}
-use Rattle.pq_checks.specs.EachFault.{IsSaidOf, IsUnread, IsOfLinks, IsOfDefinitions, IsOfMessages, IsOfEnums, IsOfTypes, IsFault}
-use Rattle.pq_checks.specs.Earlier.{IsSaidOfOne}
-use Rattle.pq_checks.specs.Faults.{at, when, constant_faults, kind_faults, extend_faults, package_faults, state_faults, ring_faults, import_faults, is_listed, twice_faults, elsewhere_faults, other_faults, is_at_top, field_number_faults, field_name_faults, range_faults, oneof_faults, enum_faults, value_number_faults, value_name_faults, resolution_faults, reference_faults, named_type}
-use Rattle.pq_checks.specs.Members.{Member, fields, values, packages, oneofs, enums, ranges, ReservedName, reserved_names, ImportName, imports, Opted, option_statements, Assigned, constants, extends}
-use Rattle.pq_checks.specs.Surroundings.{Surroundings, state_in, first_with}
-use Rattle.pq_checks.specs.declared.code.Code.{Code}
-use Rattle.pq_checks.specs.declared.fault.Fault.{Fault}
-use Rattle.pq_checks.specs.declared.members.Reserved.{Reserved}
-use Rattle.pq_checks.specs.declared.surroundings.FileState.{FileState}
-use Rattle.pq_checks.specs.declared.surroundings.FileState.TheVariants.{Missing, Unreadable, Readable}
-use Rattle.pq_checks.proofs.EachLine.{contains_head, each_is_fault, head_or_tail, none_said, only_one, tail}
-use Rattle.pq_checks.proofs.EachPart.{HasPlace, field_number, field_name, value_number, value_name, package_name, oneof_name, enum_name, extend_whole, import_name, range_itself, constant_itself, defined_name, referred_type}
+use Rattle.pq_checks.specs.Faults.{at, kind_faults, package_faults, state_faults, ring_faults, other_faults, resolution_faults, reference_faults, named_type, table}
+use Rattle.pq_checks.specs.Line.{Line, each, after, unless, IsSaid, IsSaidByOne}
+use Rattle.pq_checks.specs.Members.{ImportName}
+use Rattle.pq_checks.specs.Surroundings.{Surroundings}
+use Rattle.pq_checks.specs.declared.errors.code.Code.{Code}
+use Rattle.pq_checks.specs.declared.errors.fault.Fault.{Fault}
+use Rattle.pq_checks.specs.declared.around.surroundings.FileState.{FileState}
+use Rattle.pq_checks.specs.declared.around.surroundings.FileState.TheVariants.{Missing, Unreadable, Readable}
+use Rattle.pq_checks.proofs.EachLine.{contains_head, each_line, head_or_tail, none_said, only_one, tail}
+use Rattle.pq_checks.proofs.EachPart.{HasPlace, field_number, field_name, value_number, value_name, of_kind_name, of_kind_whole, import_name, range_itself, constant_itself, defined_name, referred_type}
 use Rattle.pq_checks.proofs.References.{no_statement, no_name, with_name}
 
--- ---- the place of what a line says
+-- ---- the place of what is said
 
--- `AllAt item p xs` is that all errors `xs` are at the part `p` of the item `item`
-abbrev AllAt : ℕ → Part → List Fault → Type 0
-AllAt item p xs = (x : Fault) → Contains xs x → (x.item ≡ item) × (x.part ≡ p)
+-- `AllStand nodes fs` is that the tree has the place of each of the errors `fs`
+AllStand : List Node → List Fault → Type 0
+AllStand nodes fs = (x : Fault) → Contains fs x → Stands nodes x
 
-none_at : (item : ℕ) (p : Part) → AllAt item p []
-none_at item p x h = absurd (none_said x h)
+module _ (nodes : List Node) where
+  none_stand : AllStand nodes []
+  unfolding AllStand
+  none_stand x h = absurd (none_said x h)
 
-one_at : (item : ℕ) (p : Part) (c : Code) (text : List ℕ) → AllAt item p (at item p c text ∷ [])
-one_at item p c text x h =
-    let is = only_one (at item p c text) x h in
-    (ap (λ (f : Fault). f.item) is, ap (λ (f : Fault). f.part) is)
+  one_stands : (item : ℕ) (p : Part) (c : Code) (text : List ℕ) → HasPlace nodes item p → AllStand nodes (at item p c text ∷ [])
+  unfolding AllStand HasPlace
+  one_stands item p c text has x h = subst (λ (f : Fault). Stands nodes f) (sym (only_one (at item p c text) x h)) has
 
-cond_at : (b : Bool) (item : ℕ) (p : Part) (xs ys : List Fault) → AllAt item p xs → AllAt item p ys → AllAt item p (cond b xs ys)
-cond_at true item p xs ys a c = a
-cond_at false item p xs ys a c = c
+  cond_stand : (b : Bool) (xs ys : List Fault) → AllStand nodes xs → AllStand nodes ys → AllStand nodes (cond b xs ys)
+  cond_stand true xs ys a c = a
+  cond_stand false xs ys a c = c
 
-when_at : (b : Bool) (item : ℕ) (p : Part) (c : Code) (text : List ℕ) → AllAt item p (when b (at item p c text))
-when_at b item p c text = cond_at b item p (at item p c text ∷ []) [] (one_at item p c text) (none_at item p)
+  both_stand : (xs ys : List Fault) → AllStand nodes xs → AllStand nodes ys → AllStand nodes (xs ++ ys)
+  unfolding AllStand
+  both_stand xs ys a b x h = elim (Contains-append_cases xs ys x h) [ inl here ↦ a x here | inr there ↦ b x there ]
 
-both_at : (item : ℕ) (p : Part) (xs ys : List Fault) → AllAt item p xs → AllAt item p ys → AllAt item p (xs ++ ys)
-both_at item p xs ys a b x h = elim (Contains-append_cases xs ys x h) [ inl here ↦ a x here | inr there ↦ b x there ]
+  kind_stands : (k : ConstantKind) (item nth : ℕ) → HasPlace nodes item (part.Constant nth) → AllStand nodes (kind_faults k item nth)
+  kind_stands Aggregate item nth has = one_stands _ _ _ _ has
+  kind_stands Float item nth has = one_stands _ _ _ _ has
+  kind_stands _ item nth has = none_stand
 
-constant_at : (a : Assigned) → AllAt a.item (part.Constant a.nth) (constant_faults a)
-constant_at a = by a.kind
-  where
-    by : (k : ConstantKind) → AllAt a.item (part.Constant a.nth) (kind_faults k a.item a.nth)
-    by Aggregate = one_at a.item (part.Constant a.nth) _ _
-    by Float = one_at a.item (part.Constant a.nth) _ _
-    by _ = none_at a.item (part.Constant a.nth)
+  package_stands : (earlier : List ℕ) (i : ℕ) → HasPlace nodes i part.Name → AllStand nodes (package_faults earlier i)
+  package_stands [] i has = none_stand
+  package_stands (q ∷ qs) i has = one_stands _ _ _ _ has
 
-extend_at : (i : ℕ) → AllAt i part.Whole (extend_faults i)
-extend_at i = one_at i part.Whole _ _
+  state_stands : (state : FileState) (i : ImportName) → HasPlace nodes i.item part.Name → AllStand nodes (state_faults state i)
+  state_stands Missing i has = one_stands _ _ _ _ has
+  state_stands Unreadable i has = one_stands _ _ _ _ has
+  state_stands Readable i has = none_stand
 
-package_at : (earlier : List ℕ) (i : ℕ) → AllAt i part.Name (package_faults earlier i)
-package_at [] i = none_at i part.Name
-package_at (q ∷ qs) i = one_at i part.Name _ _
+  ring_stands : (ring : Option (List (List ℕ))) (next : Option (List ℕ)) (repeated : Bool) (i : ImportName)
+      → HasPlace nodes i.item part.Name → AllStand nodes (ring_faults ring next repeated i)
+  ring_stands (Some ring) (Some next) repeated i has = search (cond_stand, one_stands, none_stand)
+  ring_stands (Some ring) None repeated i has = none_stand
+  ring_stands None next repeated i has = none_stand
 
-state_at : (state : FileState) (i : ImportName) → AllAt i.item part.Name (state_faults state i)
-state_at Missing i = one_at i.item part.Name _ _
-state_at Unreadable i = one_at i.item part.Name _ _
-state_at Readable i = none_at i.item part.Name
+  other_stands : (other : Option (List ℕ)) (d : Definition) → HasPlace nodes d.item part.Name → AllStand nodes (other_faults other d)
+  other_stands None d has = none_stand
+  other_stands (Some file) d has = one_stands _ _ _ _ has
 
-ring_at : (ring : Option (List (List ℕ))) (next : Option (List ℕ)) (earlier : List ImportName) (i : ImportName)
-    → AllAt i.item part.Name (ring_faults ring next earlier i)
-ring_at (Some ring) (Some next) earlier i = when_at _ i.item part.Name _ _
-ring_at (Some ring) None earlier i = none_at i.item part.Name
-ring_at None next earlier i = none_at i.item part.Name
+  resolution_stands : (item : ℕ) (p : TypePart) (name : List ℕ) (r : Resolution) → HasPlace nodes item (part.«Type» p) → AllStand nodes (resolution_faults item p name r)
+  resolution_stands item p name resolutions.NotFound has = one_stands _ _ _ _ has
+  resolution_stands item p name (resolutions.NotVisible file) has = one_stands _ _ _ _ has
+  resolution_stands item p name resolutions.NotAType has = one_stands _ _ _ _ has
+  resolution_stands item p name (resolutions.«Type» target) has = search (cond_stand, one_stands, none_stand)
 
-import_at : (s : Surroundings) (earlier : List ImportName) (i : ImportName) → AllAt i.item part.Name (import_faults s earlier i)
-import_at s earlier i =
-    cond_at (is_utf8 i.value) i.item part.Name _ _
-    (both_at i.item part.Name _ _ (both_at i.item part.Name _ _ (state_at (state_in s.imported i.value) i) (when_at _ i.item part.Name _ _))
-    (ring_at s.ring s.next earlier i))
-    (one_at i.item part.Name _ _)
+  module _ (r : ResolvedReference) (has : HasPlace nodes r.item (part.«Type» r.part)) where
+    abbrev Standing : List Fault → Type 0
+    Standing fs = AllStand nodes fs
 
-twice_at : (earlier : List Definition) (d : Definition) → AllAt d.item part.Name (twice_faults earlier d)
-twice_at earlier d = when_at _ d.item part.Name _ _
+    of_name : (n : Node) → slice_get nodes r.item ≡ Some n → (o : Option Name) → named_type r.part n.statement ≡ o → Standing (reference_faults nodes r)
+    of_name n is None none = subst Standing (sym (no_name nodes r n is none)) none_stand
+    of_name n is (Some name) found = subst Standing (sym (with_name nodes r n name is found)) (resolution_stands r.item r.part name.text r.resolution has)
 
-other_at : (other : Option (List ℕ)) (d : Definition) → AllAt d.item part.Name (other_faults other d)
-other_at None d = none_at d.item part.Name
-other_at (Some file) d = one_at d.item part.Name _ _
+    of_statement : (o : Option Node) → slice_get nodes r.item ≡ o → Standing (reference_faults nodes r)
+    of_statement None none = subst Standing (sym (no_statement nodes r none)) none_stand
+    of_statement (Some n) is = of_name n is (named_type r.part n.statement) refl
 
-elsewhere_at : (others : List FileDefs) (nodes : List Node) (d : Definition) → AllAt d.item part.Name (elsewhere_faults others nodes d)
-elsewhere_at others nodes d =
-    cond_at (is_at_top nodes d) d.item part.Name _ _ (other_at (first_with d.full_name others) d) (none_at d.item part.Name)
-
--- four lines of the table
-four_at : (item : ℕ) (p : Part) (a b c d : Bool) (e f g h : Code) (s t u v : List ℕ)
-    → AllAt item p (when a (at item p e s) ++ when b (at item p f t) ++ when c (at item p g u) ++ when d (at item p h v))
-four_at item p a b c d e f g h s t u v =
-    both_at item p (when a (at item p e s) ++ when b (at item p f t) ++ when c (at item p g u)) (when d (at item p h v))
-    (both_at item p (when a (at item p e s) ++ when b (at item p f t)) (when c (at item p g u))
-    (both_at item p (when a (at item p e s)) (when b (at item p f t)) (when_at a item p e s) (when_at b item p f t))
-    (when_at c item p g u)) (when_at d item p h v)
-
-field_number_at : (reserved : List Reserved) (earlier : List Member) (f : Member) → AllAt f.item part.Number (field_number_faults reserved earlier f)
-field_number_at reserved earlier f =
-    four_at f.item part.Number _ _ _ _ _ _ _ _ _ _ _ _
-
-field_name_at : (names : List ReservedName) (f : Member) → AllAt f.item part.Name (field_name_faults names f)
-field_name_at names f = when_at _ f.item part.Name _ _
-
-range_at : (r : Reserved) → AllAt r.item (part.Range r.nth) (range_faults r)
-range_at r = when_at _ r.item (part.Range r.nth) _ _
-
-oneof_at : (members : List Member) (i : ℕ) → AllAt i part.Name (oneof_faults members i)
-oneof_at members i = when_at _ i part.Name _ _
-
-enum_at : (members : List Member) (i : ℕ) → AllAt i part.Name (enum_faults members i)
-enum_at members i = when_at _ i part.Name _ _
-
-value_number_at : (reserved : List Reserved) (options : List Opted) (earlier : List Member) (v : Member)
-    → AllAt v.item part.Number (value_number_faults reserved options earlier v)
-value_number_at reserved options earlier v =
-    four_at v.item part.Number _ _ _ _ _ _ _ _ _ _ _ _
-
-value_name_at : (names : List ReservedName) (v : Member) → AllAt v.item part.Name (value_name_faults names v)
-value_name_at names v = when_at _ v.item part.Name _ _
-
-resolution_at : (item : ℕ) (p : TypePart) (name : List ℕ) (r : Resolution) → AllAt item (part.«Type» p) (resolution_faults item p name r)
-resolution_at item p name resolutions.NotFound = one_at item (part.«Type» p) _ _
-resolution_at item p name (resolutions.NotVisible file) = one_at item (part.«Type» p) _ _
-resolution_at item p name resolutions.NotAType = one_at item (part.«Type» p) _ _
-resolution_at item p name (resolutions.«Type» target) = when_at _ item (part.«Type» p) _ _
-
-module _ (nodes : List Node) (r : ResolvedReference) where
-  abbrev AllThere : List Fault → Type 0
-  AllThere xs = AllAt r.item (part.«Type» r.part) xs
-
-  of_name : (n : Node) → slice_get nodes r.item ≡ Some n → (o : Option Name) → named_type r.part n.statement ≡ o → AllThere (reference_faults nodes r)
-  of_name n is None none = subst AllThere (sym (no_name nodes r n is none)) (none_at r.item (part.«Type» r.part))
-  of_name n is (Some name) found = subst AllThere (sym (with_name nodes r n name is found)) (resolution_at r.item r.part name.text r.resolution)
-
-  of_statement : (o : Option Node) → slice_get nodes r.item ≡ o → AllThere (reference_faults nodes r)
-  of_statement None none = subst AllThere (sym (no_statement nodes r none)) (none_at r.item (part.«Type» r.part))
-  of_statement (Some n) is = of_name n is (named_type r.part n.statement) refl
-
-reference_at : (nodes : List Node) (r : ResolvedReference) → AllAt r.item (part.«Type» r.part) (reference_faults nodes r)
-reference_at nodes r = of_statement nodes r (slice_get nodes r.item) refl
+  reference_stands : (r : ResolvedReference) → HasPlace nodes r.item (part.«Type» r.part) → AllStand nodes (reference_faults nodes r)
+  reference_stands r has = of_statement r has (slice_get nodes r.item) refl
 
 -- ---- each line
+
+-- `Places nodes l` is that the tree has the place of each error that the line `l` says, and
+-- `AllPlace nodes ls` is that of each of the lines `ls`
+Places : List Node → Line → Type 0
+Places nodes l = (x : Fault) → IsSaid l x → Stands nodes x
+
+abbrev AllPlace : List Node → List Line → Type 0
+AllPlace nodes [] = Unit {0}
+AllPlace nodes (l ∷ ls) = Places nodes l × AllPlace nodes ls
+
+one_places : (nodes : List Node) (ls : List Line) → AllPlace nodes ls → (x : Fault) → IsSaidByOne ls x → Stands nodes x
+unfolding Places
+one_places nodes [] all x h = absurd h
+one_places nodes (l ∷ ls) all x (inl here) = all.0 x here
+one_places nodes (l ∷ ls) all x (inr there) = one_places nodes ls all.1 x there
 
 from_map : {A B : Type 0} (f : A → B) (xs : List A) (y : B) → Contains (map f xs) y → (x : A) × Contains xs x × (y ≡ f x)
 from_map f [] y h = absurd (none_said y h)
@@ -178,82 +135,58 @@ from_map {A = A} {B = B} f (x ∷ xs) y h = by (from_map f xs y) (head_or_tail (
     by rest (inl is) = (x, contains_head x xs, sym is)
     by rest (inr there) = let r = rest there in (r.0, tail x r.0 xs r.1, r.2)
 
-module _ (nodes : List Node) (x : Fault) where
-  stands : (item : ℕ) (p : Part) → HasPlace nodes item p → (x.item ≡ item) × (x.part ≡ p) → Stands nodes x
-  stands item p has same =
-      (has.0, ap (λ (i : ℕ). place nodes i x.part) same.0 ∙ ap (λ (q : Part). place nodes item q) same.1 ∙ has.1)
+module _ (nodes : List Node) where
+  by_each : {A : Type 0} (f : A → List Fault) (xs : List A) → ((y : A) → Contains xs y → AllStand nodes (f y)) → Places nodes (each f xs)
+  unfolding Places AllStand
+  by_each f xs all x said = all said.0 said.1 x said.2
 
-  each : {A : Type 0} (f : A → List Fault) (xs : List A) (item : A → ℕ) (p : A → Part) → ((y : A) → Contains xs y → HasPlace nodes (item y) (p y))
-      → ((y : A) → AllAt (item y) (p y) (f y)) → IsSaidOf f xs x → Stands nodes x
-  each f xs item p has all said = stands (item said.0) (p said.0) (has said.0 said.1) (all said.0 x said.2)
+  by_after : {A : Type 0} (f : List A → A → List Fault) (xs : List A) → ((earlier : List A) (y : A) → Contains xs y → AllStand nodes (f earlier y)) → Places nodes (after f xs)
+  unfolding Places AllStand
+  by_after f xs all x said = all (take said.0 xs) said.1 (said.0, said.2, said.3) x said.4
 
-  after : {A : Type 0} (f : List A → A → List Fault) (xs : List A) (item : A → ℕ) (p : A → Part) → ((y : A) → Contains xs y → HasPlace nodes (item y) (p y))
-      → ((earlier : List A) (y : A) → AllAt (item y) (p y) (f earlier y)) → IsSaidOfOne f xs x → Stands nodes x
-  after f xs item p has all said =
-      stands (item said.1) (p said.1) (has said.1 (said.0, said.2, said.3)) (all (take said.0 xs) said.1 x said.4)
+  by_unless : (b : Bool) (l : Line) → Places nodes l → Places nodes (unless b l)
+  unfolding Places
+  by_unless b l placed x h = placed x h.1
 
-  unread : IsUnread nodes x → Stands nodes x
-  unread (inl s) = each constant_faults (constants nodes) (λ (a : Assigned). a.item) (λ (a : Assigned). part.Constant a.nth) (constant_itself nodes) constant_at s
-  unread (inr s) = each extend_faults (extends nodes) (λ (i : ℕ). i) (λ (i : ℕ). part.Whole) (extend_whole nodes) extend_at s
+  defined : (ds : List Definition) → ds ≡ definitions_of nodes → (d : Definition) → Contains ds d → HasPlace nodes d.item part.Name
+  defined ds are d among = defined_name nodes d (subst (λ (es : List Definition). Contains es d) are among)
 
-  links : (s : Surroundings) → IsOfLinks s nodes x → Stands nodes x
-  links s (inl h) = after package_faults (packages nodes) (λ (i : ℕ). i) (λ (i : ℕ). part.Name) (package_name nodes) package_at h
-  links s (inr h) = after (import_faults s) (imports nodes) (λ (i : ImportName). i.item) (λ (i : ImportName). part.Name) (import_name nodes) (import_at s) h
+  referred : (scope : Scope) (rs : List ResolvedReference) → rs ≡ map (resolved_in scope) (references_of nodes) → (r : ResolvedReference) → Contains rs r → HasPlace nodes r.item (part.«Type» r.part)
+  referred scope rs are r among =
+      let f = from_map (resolved_in scope) (references_of nodes) r (subst (λ (es : List ResolvedReference). Contains es r) are among) in
+      subst (λ (y : ResolvedReference). HasPlace nodes y.item (part.«Type» y.part)) (sym f.2) (referred_type nodes f.0 f.1)
 
-  definitions : (s : Surroundings) → s.definitions ≡ definitions_of nodes → IsOfDefinitions s nodes x → Stands nodes x
-  definitions s are h = elim h [
-    | inl twice ↦ after twice_faults s.definitions (λ (d : Definition). d.item) (λ (d : Definition). part.Name) there twice_at twice
-    | inr elsewhere ↦ each (elsewhere_faults s.others nodes) s.definitions (λ (d : Definition). d.item) (λ (d : Definition). part.Name) there (elsewhere_at s.others nodes) elsewhere.1
-  ]
-    where
-      there : (d : Definition) → Contains s.definitions d → HasPlace nodes d.item part.Name
-      there d among = defined_name nodes d (subst (λ (ds : List Definition). Contains ds d) are among)
-
-  messages : IsOfMessages nodes x → Stands nodes x
-  messages h = elim h [
-    | inl number ↦ after (field_number_faults (ranges nodes)) (fields nodes) (λ (m : Member). m.item) (λ (m : Member). part.Number) (field_number nodes) (field_number_at (ranges nodes)) number
-    | inr others ↦ elim others [
-      | inl name ↦ each (field_name_faults (reserved_names nodes)) (fields nodes) (λ (m : Member). m.item) (λ (m : Member). part.Name) (field_name nodes) (field_name_at (reserved_names nodes)) name
-      | inr rest ↦ elim rest [
-        | inl range ↦ each range_faults (ranges nodes) (λ (r : Reserved). r.item) (λ (r : Reserved). part.Range r.nth) (range_itself nodes) range_at range
-        | inr oneof ↦ each (oneof_faults (fields nodes)) (oneofs nodes) (λ (i : ℕ). i) (λ (i : ℕ). part.Name) (oneof_name nodes) (oneof_at (fields nodes)) oneof
-      ]
-    ]
-  ]
-
-  enumerations : IsOfEnums nodes x → Stands nodes x
-  enumerations h = elim h [
-    | inl empty ↦ each (enum_faults (values nodes)) (enums nodes) (λ (i : ℕ). i) (λ (i : ℕ). part.Name) (enum_name nodes) (enum_at (values nodes)) empty
-    | inr others ↦ elim others [
-      | inl number ↦ after (value_number_faults (ranges nodes) (option_statements nodes)) (values nodes) (λ (m : Member). m.item) (λ (m : Member). part.Number) (value_number nodes)
-          (value_number_at (ranges nodes) (option_statements nodes)) number
-      | inr name ↦ each (value_name_faults (reserved_names nodes)) (values nodes) (λ (m : Member). m.item) (λ (m : Member). part.Name) (value_name nodes) (value_name_at (reserved_names nodes)) name
-    ]
-  ]
-
-  types : (s : Surroundings) (scope : Scope) → s.references ≡ map (resolved_in scope) (references_of nodes) → IsOfTypes s nodes x → Stands nodes x
-  types s scope are h = each (reference_faults nodes) s.references (λ (r : ResolvedReference). r.item) (λ (r : ResolvedReference). part.«Type» r.part) there (reference_at nodes) h.1
-    where
-      there : (r : ResolvedReference) → Contains s.references r → HasPlace nodes r.item (part.«Type» r.part)
-      there r among =
-          let f = from_map (resolved_in scope) (references_of nodes) r (subst (λ (rs : List ResolvedReference). Contains rs r) are among) in
-          subst (λ (y : ResolvedReference). HasPlace nodes y.item (part.«Type» y.part)) (sym f.2) (referred_type nodes f.0 f.1)
-
-  fault_stands : (s : Surroundings) (scope : Scope) → s.definitions ≡ definitions_of nodes → s.references ≡ map (resolved_in scope) (references_of nodes)
-      → IsFault s nodes x → Stands nodes x
-  fault_stands s scope ds rs h = elim h [
-    | inl a ↦ unread a
-    | inr b ↦ elim b [
-      | inl c ↦ links s c
-      | inr d ↦ elim d [
-        | inl e ↦ definitions s ds e
-        | inr f ↦ elim f [
-          | inl g ↦ messages g
-          | inr i ↦ elim i [ inl j ↦ enumerations j | inr k ↦ types s scope rs k ]
-        ]
-      ]
-    ]
-  ]
+  table_places : (s : Surroundings) (scope : Scope) → s.definitions ≡ definitions_of nodes → s.references ≡ map (resolved_in scope) (references_of nodes)
+      → AllPlace nodes (table s nodes)
+  table_places s scope ds rs =
+      let definition = defined s.definitions ds in
+      let type = referred scope s.references rs in
+      search (
+        by_each,
+        by_after,
+        by_unless,
+        none_stand,
+        one_stands,
+        cond_stand,
+        both_stand,
+        kind_stands,
+        package_stands,
+        state_stands,
+        ring_stands,
+        other_stands,
+        reference_stands,
+        constant_itself,
+        of_kind_name,
+        of_kind_whole,
+        import_name,
+        field_number,
+        field_name,
+        range_itself,
+        value_number,
+        value_name,
+        definition,
+        type,
+      ) depth 30
 
 -- ---- the file
 
@@ -268,7 +201,8 @@ stays_standing nodes x h = spanned (place (map bare nodes) x.item x.part) (place
 text_stands : (p : Parsed) (s : Surroundings) (scope : Scope) (x : Fault) → s.definitions ≡ definitions_of (nodes_in (parsed_items p))
     → s.references ≡ map (resolved_in scope) (references_of (nodes_in (parsed_items p))) → Contains (file_faults s (parsed_items p)) x → Stands (tree_nodes p) x
 text_stands (Tree nodes) s scope x ds rs h =
-    stays_standing nodes x (fault_stands (map bare nodes) x s scope ds rs ((each_is_fault s (map bare nodes) x).0 h))
+    let all = map bare nodes in
+    stays_standing nodes x (one_places all (table s all) (table_places all s scope ds rs) x ((each_line (table s all) x).0 h))
 text_stands (SyntaxFault span code) s scope x ds rs h = absurd (none_said x h)
 
 file_stands : (file : ParsedFile) (s : Surroundings) (scope : Scope) (x : Fault) → s.definitions ≡ definitions_of (nodes_in (items_of file))

@@ -2,12 +2,12 @@
 use Rattle.std.proofs.Common.{◌≡◌, ℕ, Bool, true, false, cond, List, [], ◌∷◌, ◌++◌, refl, sym, ap, ◌∙◌, append-nil, true≢false}
 use Rattle.std.specs.Prelude.{◌||◌, filter, flat_map}
 use Rattle.std.specs.List.{list_any}
-use Rattle.pq_schema.specs.declared.definitions.Definition.{Definition}
-use Rattle.pq_schema.specs.declared.scope.FileDefs.{FileDefs}
+use Rattle.pq_schema.specs.declared.define.definitions.Definition.{Definition}
+use Rattle.pq_schema.specs.declared.scope.scope.FileDefs.{FileDefs}
 use Rattle.pq_syntax.specs.declared.tree.Node.{Node}
 use Rattle.pq_checks.specs.Faults.{is_at_top, elsewhere_faults}
 use Rattle.pq_checks.specs.aux.Views.{is_other}
-use Rattle.pq_checks.specs.declared.fault.Fault.{Fault}
+use Rattle.pq_checks.specs.declared.errors.fault.Fault.{Fault}
 
 -- a choice between one list and itself
 either_way : (b : Bool) (fs : List Fault) → cond b fs fs ≡ fs

@@ -13,7 +13,7 @@ use Rattle.pq_schema.specs.Compile.{IsScope, AreResolved, defs_at, nodes_at, res
 use Rattle.pq_schema.specs.Missing.{no_scope}
 use Rattle.pq_schema.specs.References.{references_of}
 use Rattle.pq_schema.specs.ScopeContents.{Scope}
-use Rattle.pq_schema.specs.declared.resolved.ResolvedReference.{ResolvedReference}
+use Rattle.pq_schema.specs.declared.queries.resolved.ResolvedReference.{ResolvedReference}
 
 module _ (files : Sources) where
   pub linked_or_ring : (f : List ℕ) → ((l : Links) × AreLinks (graph_of files) f l) ⊎ ((ring : List (List ℕ)) × IsRingOf (graph_of files) f ring)

@@ -1,16 +1,13 @@
 -- The errors of imports, by what the code looks up: states by name, and names listed before.
 use Rattle.std.proofs.Common.{◌≡◌, ℕ, ◌+◌, ◌<◌, Bool, true, false, cond, List, [], ◌∷◌, ◌++◌, drop, length, get_or, refl, sym, ◌∙◌, ap, append_assoc, add-one, drop-cons}
-use Rattle.std.specs.Prelude.{bytes_eq, codes, Option, Some, None, unwrap_or}
-use Rattle.std.specs.Str.{is_utf8}
-use Rattle.pq_checks.specs.declared.code.Code.TheVariants as code
-use Rattle.pq_links.specs.declared.places.Part.TheVariants as part
-use Rattle.pq_checks.specs.Faults.{at, arrowed, ring_text, ring_faults, import_faults, is_listed, state_faults}
+use Rattle.std.specs.Prelude.{bytes_eq, codes, Option, Some, unwrap_or}
+use Rattle.pq_checks.specs.Faults.{arrowed, ring_text, import_faults, import_faults_by, is_listed}
 use Rattle.pq_checks.specs.Members.{ImportName}
 use Rattle.pq_checks.specs.Surroundings.{state_in}
-use Rattle.pq_checks.specs.aux.Imports.{found_in, first_name, import_line, ring_line, listed_line, by_imports}
-use Rattle.pq_checks.specs.declared.surroundings.FileState.{FileState}
-use Rattle.pq_checks.specs.declared.surroundings.FileState.TheVariants.{Readable}
-use Rattle.pq_checks.specs.declared.surroundings.Imported.{Imported}
+use Rattle.pq_checks.specs.aux.Imports.{found_in, first_name, by_imports}
+use Rattle.pq_checks.specs.declared.around.surroundings.FileState.{FileState}
+use Rattle.pq_checks.specs.declared.around.surroundings.FileState.TheVariants.{Readable}
+use Rattle.pq_checks.specs.declared.around.surroundings.Imported.{Imported}
 
 -- ---- states
 
@@ -53,17 +50,8 @@ ring_said (f ∷ fs) = refl
 
 -- ---- one import
 
-ring_same : (ring : Option (List (List ℕ))) (next : Option (List ℕ)) (earlier : List ImportName) (i : ImportName)
-    → ring_faults ring next earlier i ≡ ring_line ring next (is_listed i.value earlier) i
-ring_same None next earlier i = refl
-ring_same (Some ring) None earlier i = refl
-ring_same (Some ring) (Some next) earlier i = refl
-
 -- the errors of an import, by its state and whether its name is repeated
 pub import_said : (imported : List Imported) (ring : Option (List (List ℕ))) (next : Option (List ℕ)) (earlier : List ImportName) (i : ImportName) (state : FileState) (repeated : Bool)
-    → state ≡ state_in imported i.value → repeated ≡ is_listed i.value earlier → import_line state ring next repeated i ≡ import_faults (by_imports imported ring next) earlier i
+    → state ≡ state_in imported i.value → repeated ≡ is_listed i.value earlier → import_faults_by state ring next repeated i ≡ import_faults (by_imports imported ring next) earlier i
 import_said imported ring next earlier i state repeated is_state is_repeated =
-    ap (λ s. import_line s ring next repeated i) is_state
-    ∙ ap (λ b. import_line (state_in imported i.value) ring next b i) is_repeated
-    ∙ ap (λ rs. cond (is_utf8 i.value) (state_faults (state_in imported i.value) i ++ listed_line (is_listed i.value earlier) i ++ rs) (at i.item part.Name code.ImportNotText (codes "import name is not UTF-8") ∷ []))
-    (sym (ring_same ring next earlier i))
+    ap (λ s. import_faults_by s ring next repeated i) is_state ∙ ap (λ b. import_faults_by (state_in imported i.value) ring next b i) is_repeated

@@ -16,7 +16,6 @@ pub mod EachPart
 pub mod EachStands
 pub mod EachDiagnostic
 pub mod Joined
-pub mod Spotted
 pub mod Sets
 pub mod References
 pub mod Importing

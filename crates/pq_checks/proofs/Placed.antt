@@ -5,8 +5,8 @@ use Rattle.std.specs.List.{cons_option}
 use Rattle.pq_syntax.specs.declared.tree.Node.{Node}
 use Rattle.pq_checks.specs.Diagnostics.{diagnostic_at}
 use Rattle.pq_checks.specs.aux.DiagnosticsTurns.{listed_at}
-use Rattle.pq_checks.specs.declared.diagnostic.Diagnostic.{Diagnostic}
-use Rattle.pq_checks.specs.declared.fault.Fault.{Fault}
+use Rattle.pq_checks.specs.declared.errors.diagnostic.Diagnostic.{Diagnostic}
+use Rattle.pq_checks.specs.declared.errors.fault.Fault.{Fault}
 
 one_listed : (o : Option Diagnostic) (ds : List Diagnostic) → cons_option o [] ++ ds ≡ cons_option o ds
 one_listed None ds = refl

@@ -1,6 +1,6 @@
 -- The order that the type of codes derives is that of the codes as they are printed: the variants
 -- stand in the order of their texts.
-use Rattle.std.specs.Prelude.{◌≡◌, ℕ, Bool, true, false, cond, List, [], ◌∷◌, codes, refl}
+use Rattle.std.specs.Prelude.{◌≡◌, ℕ, Bool, true, false, cond, List, [], ◌∷◌, refl}
 use Rattle.std.proofs.Common.{sym, ◌∙◌, ap, ap₂, inl, inr, true≢false}
 use Rattle.std.specs.Cmp.{IsTotalOrder, nat_cmp_total}
 use Rattle.std.specs.Cmp.Derive.{points}
@@ -14,10 +14,9 @@ use denote.Enum.Bare.{Bare}
 use denote.Enum.Compared.{by}
 use denote.Struct.Field.{Field}
 use Rattle.pq_checks.specs.Codes.{code_text}
-use Rattle.pq_checks.specs.contracts.code as contracts
-use Rattle.pq_checks.specs.contracts.code.CodeOrd.TheImpl as code_order
-use Rattle.pq_checks.specs.declared.code.Code.{Code}
-use Rattle.pq_checks.specs.declared.code.Code.TheVariants as code
+use Rattle.pq_checks.specs.contracts.errors.code as contracts
+use Rattle.pq_checks.specs.contracts.errors.code.CodeOrd.TheImpl as code_order
+use Rattle.pq_checks.specs.declared.errors.code.Code.{Code}
 
 -- ---- texts that rise
 
@@ -57,117 +56,42 @@ other_holds false q e = absurd (true≢false (sym e))
 
 -- ---- variants and their texts
 
--- there is a text for each variant
-abbrev Fits : List (List Field) → List (List ℕ) → Type 0
-Fits [] ts = Unit {0}
-Fits (Fs ∷ Fss) [] = ⊥
-Fits (Fs ∷ Fss) (t ∷ ts) = Fits Fss ts
+-- the text that `f` gives for each variant, in order
+abbrev texts : (Fss : List (List Field)) → Bare Fss → (Choice Fss → List ℕ) → List (List ℕ)
+texts [] bare f = []
+texts ([] ∷ Fss) bare f = f (inl tt) ∷ texts Fss bare (λ (c : Choice Fss). f (inr c))
+texts ((F ∷ Fs) ∷ Fss) bare f = absurd bare
 
--- the text of a variant
-abbrev text_at : (Fss : List (List Field)) → Choice Fss → List (List ℕ) → List ℕ
-text_at [] c ts = []
-text_at (Fs ∷ Fss) c [] = []
-text_at (Fs ∷ Fss) (inl x) (t ∷ ts) = t
-text_at (Fs ∷ Fss) (inr y) (t ∷ ts) = text_at Fss y ts
+below_at : (t : List ℕ) (Fss : List (List Field)) (bare : Bare Fss) (f : Choice Fss → List ℕ) (y : Choice Fss) → below t (texts Fss bare f) ≡ true → text_cmp t (f y) ≡ Less
+below_at t [] bare f y b = absurd y
+below_at t ([] ∷ Fss) bare f (inl x) b = less_told (text_cmp t (f (inl tt))) (one_holds _ (below t (texts Fss bare (λ (c : Choice Fss). f (inr c)))) b)
+below_at t ([] ∷ Fss) bare f (inr y) b = below_at t Fss bare (λ (c : Choice Fss). f (inr c)) y (other_holds (is_less (text_cmp t (f (inl tt)))) _ b)
+below_at t ((F ∷ Fs) ∷ Fss) bare f y b = absurd bare
 
-below_at : (t : List ℕ) (ts : List (List ℕ)) (Fss : List (List Field)) (y : Choice Fss) → Fits Fss ts → below t ts ≡ true → text_cmp t (text_at Fss y ts) ≡ Less
-below_at t ts [] y fits b = absurd y
-below_at t [] (Fs ∷ Fss) y fits b = absurd fits
-below_at t (u ∷ us) (Fs ∷ Fss) (inl x) fits b = less_told (text_cmp t u) (one_holds (is_less (text_cmp t u)) (below t us) b)
-below_at t (u ∷ us) (Fs ∷ Fss) (inr y) fits b = below_at t us Fss y fits (other_holds (is_less (text_cmp t u)) (below t us) b)
-
-order_at : (Fss : List (List Field)) → Bare Fss → (ts : List (List ℕ)) → Fits Fss ts → rises ts ≡ true → (c d : Choice Fss)
-    → by Less Greater Fss (points Equal Fss) c d ≡ text_cmp (text_at Fss c ts) (text_at Fss d ts)
-order_at [] bare ts fits up c d = absurd c
-order_at ([] ∷ Fss) bare [] fits up c d = absurd fits
-order_at ([] ∷ Fss) bare (t ∷ ts) fits up (inl x) (inl y) = sym (tied_itself texts_total t)
-order_at ([] ∷ Fss) bare (t ∷ ts) fits up (inl x) (inr y) = sym (below_at t ts Fss y fits (one_holds (below t ts) (rises ts) up))
-order_at ([] ∷ Fss) bare (t ∷ ts) fits up (inr x) (inl y) =
-    sym (texts_total.antisymm (text_at Fss x ts) t ∙ ap ordering_reverse (below_at t ts Fss x fits (one_holds (below t ts) (rises ts) up)))
-order_at ([] ∷ Fss) bare (t ∷ ts) fits up (inr x) (inr y) = order_at Fss bare ts fits (other_holds (below t ts) (rises ts) up) x y
-order_at ((F ∷ Fs) ∷ Fss) bare ts fits up c d = absurd bare
+order_at : (Fss : List (List Field)) (bare : Bare Fss) (f : Choice Fss → List ℕ) → rises (texts Fss bare f) ≡ true → (c d : Choice Fss)
+    → by Less Greater Fss (points Equal Fss) c d ≡ text_cmp (f c) (f d)
+order_at [] bare f up c d = absurd c
+order_at ([] ∷ Fss) bare f up c d =
+    let rest : Choice Fss → List ℕ = λ y. f (inr y) in
+    let first = one_holds (below (f (inl tt)) (texts Fss bare rest)) (rises (texts Fss bare rest)) up in
+    let others = other_holds (below (f (inl tt)) (texts Fss bare rest)) (rises (texts Fss bare rest)) up in
+    pair c d (λ y. below_at (f (inl tt)) Fss bare rest y first) (order_at Fss bare rest others)
+  where
+    pair : (c d : Choice ([] ∷ Fss)) → ((y : Choice Fss) → text_cmp (f (inl tt)) (f (inr y)) ≡ Less)
+        → ((x y : Choice Fss) → by Less Greater Fss (points Equal Fss) x y ≡ text_cmp (f (inr x)) (f (inr y)))
+        → by Less Greater ([] ∷ Fss) (points Equal ([] ∷ Fss)) c d ≡ text_cmp (f c) (f d)
+    pair (inl x) (inl y) less rest = sym (tied_itself texts_total (f (inl tt)))
+    pair (inl x) (inr y) less rest = sym (less y)
+    pair (inr x) (inl y) less rest = sym (texts_total.antisymm (f (inr x)) (f (inl tt)) ∙ ap ordering_reverse (less x))
+    pair (inr x) (inr y) less rest = rest x y
+order_at ((F ∷ Fs) ∷ Fss) bare f up c d = absurd bare
 
 -- ---- the codes
 
-abbrev texts : List (List ℕ)
-texts =
-    code_text code.UnclosedComment
-    ∷ code_text code.UnclosedString
-    ∷ code_text code.BadEscape
-    ∷ code_text code.NumberRunsOn
-    ∷ code_text code.OtherCharacter
-    ∷ code_text code.OnlyProto3
-    ∷ code_text code.TooDeep
-    ∷ code_text code.UnexpectedToken
-    ∷ code_text code.AggregateConstant
-    ∷ code_text code.ExtendBlock
-    ∷ code_text code.FloatConstant
-    ∷ code_text code.PackageTwice
-    ∷ code_text code.ImportNotFound
-    ∷ code_text code.ImportTwice
-    ∷ code_text code.ImportWithError
-    ∷ code_text code.ImportCycle
-    ∷ code_text code.ImportNotText
-    ∷ code_text code.DefinedTwice
-    ∷ code_text code.DefinedElsewhere
-    ∷ code_text code.FieldNumberOutOfRange
-    ∷ code_text code.FieldNumberOfProtobuf
-    ∷ code_text code.FieldNumberTwice
-    ∷ code_text code.FieldNumberReserved
-    ∷ code_text code.FieldNameReserved
-    ∷ code_text code.BadRange
-    ∷ code_text code.EmptyOneof
-    ∷ code_text code.EmptyEnum
-    ∷ code_text code.FirstValueNotZero
-    ∷ code_text code.EnumNumberOutOfRange
-    ∷ code_text code.EnumNumberTwice
-    ∷ code_text code.EnumNumberReserved
-    ∷ code_text code.EnumValueNameReserved
-    ∷ code_text code.TypeNotFound
-    ∷ code_text code.TypeNotImported
-    ∷ code_text code.NotAType
-    ∷ code_text code.NotAMessage
-    ∷ []
-
-printed : (c : Code) → code_text c ≡ text_at contracts.Code.enum.parts (contracts.Code.enum.as_values c) texts
-printed code.UnclosedComment = refl
-printed code.UnclosedString = refl
-printed code.BadEscape = refl
-printed code.NumberRunsOn = refl
-printed code.OtherCharacter = refl
-printed code.OnlyProto3 = refl
-printed code.TooDeep = refl
-printed code.UnexpectedToken = refl
-printed code.AggregateConstant = refl
-printed code.ExtendBlock = refl
-printed code.FloatConstant = refl
-printed code.PackageTwice = refl
-printed code.ImportNotFound = refl
-printed code.ImportTwice = refl
-printed code.ImportWithError = refl
-printed code.ImportCycle = refl
-printed code.ImportNotText = refl
-printed code.DefinedTwice = refl
-printed code.DefinedElsewhere = refl
-printed code.FieldNumberOutOfRange = refl
-printed code.FieldNumberOfProtobuf = refl
-printed code.FieldNumberTwice = refl
-printed code.FieldNumberReserved = refl
-printed code.FieldNameReserved = refl
-printed code.BadRange = refl
-printed code.EmptyOneof = refl
-printed code.EmptyEnum = refl
-printed code.FirstValueNotZero = refl
-printed code.EnumNumberOutOfRange = refl
-printed code.EnumNumberTwice = refl
-printed code.EnumNumberReserved = refl
-printed code.EnumValueNameReserved = refl
-printed code.TypeNotFound = refl
-printed code.TypeNotImported = refl
-printed code.NotAType = refl
-printed code.NotAMessage = refl
+abbrev text_of : Choice contracts.Code.enum.parts → List ℕ
+text_of c = code_text (contracts.Code.enum.make c)
 
 pub codes_order : (a b : Code) → code_order.ghosts.cmp a b ≡ text_cmp (code_text a) (code_text b)
 codes_order a b =
-    order_at contracts.Code.enum.parts tt texts tt refl (contracts.Code.enum.as_values a) (contracts.Code.enum.as_values b)
-    ∙ ap₂ text_cmp (sym (printed a)) (sym (printed b))
+    order_at contracts.Code.enum.parts tt text_of refl (contracts.Code.enum.as_values a) (contracts.Code.enum.as_values b)
+    ∙ ap₂ text_cmp (ap code_text (contracts.Code.enum.eta a)) (ap code_text (contracts.Code.enum.eta b))

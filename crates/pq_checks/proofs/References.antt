@@ -3,7 +3,7 @@ use Rattle.std.proofs.Common.{◌≡◌, List, [], refl}
 use Rattle.std.specs.Prelude.{None, Some, slice_get}
 use Rattle.pq_syntax.specs.declared.parts.Name.{Name}
 use Rattle.pq_syntax.specs.declared.tree.Node.{Node}
-use Rattle.pq_schema.specs.declared.resolved.ResolvedReference.{ResolvedReference}
+use Rattle.pq_schema.specs.declared.queries.resolved.ResolvedReference.{ResolvedReference}
 use Rattle.pq_checks.specs.Faults.{reference_faults, resolution_faults, named_type}
 
 pub no_statement : (nodes : List Node) (r : ResolvedReference) → slice_get nodes r.item ≡ None → reference_faults nodes r ≡ []

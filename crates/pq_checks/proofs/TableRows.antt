@@ -14,9 +14,9 @@ use Rattle.pq_syntax.specs.declared.tree.Statement.TheVariants as statements
 use Rattle.pq_checks.specs.Earlier.{of_each_after}
 use Rattle.pq_checks.specs.Faults.{faults}
 use Rattle.pq_checks.specs.Surroundings.{Surroundings}
-use Rattle.pq_checks.specs.declared.code.Code.{Code}
-use Rattle.pq_checks.specs.declared.code.Code.TheVariants as code
-use Rattle.pq_checks.specs.declared.fault.Fault.{Fault}
+use Rattle.pq_checks.specs.declared.errors.code.Code.{Code}
+use Rattle.pq_checks.specs.declared.errors.code.Code.TheVariants as code
+use Rattle.pq_checks.specs.declared.errors.fault.Fault.{Fault}
 
 abbrev at : ℕ → Span
 at s = record { start = s; end = s }

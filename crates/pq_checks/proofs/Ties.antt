@@ -20,8 +20,8 @@ use Rattle.pq_checks.specs.Owners.{limits_by}
 use Rattle.pq_checks.specs.aux.Cover.{is_within, is_covered}
 use Rattle.pq_checks.specs.aux.Lines.{Key, key_cmp, stair, stair_of, NameKey, name_cmp}
 use Rattle.pq_checks.specs.aux.Sets.{is_number, is_name}
-use Rattle.pq_checks.specs.declared.members.Reserved.{Reserved}
-use Rattle.pq_checks.specs.declared.numbers.Bounds.{Bounds}
+use Rattle.pq_checks.specs.declared.tree.members.Reserved.{Reserved}
+use Rattle.pq_checks.specs.declared.tree.numbers.Bounds.{Bounds}
 
 -- ---- numbers and owners
 

@@ -7,11 +7,11 @@ use Rattle.pq_links.specs.declared.file_items.FileItems.{FileItems}
 use Rattle.pq_links.specs.declared.links.Import.{Import}
 use Rattle.pq_schema.specs.Contents.{Defs}
 use Rattle.pq_schema.specs.ScopeContents.{Scope}
-use Rattle.pq_schema.specs.declared.resolved.ResolvedReference.{ResolvedReference}
+use Rattle.pq_schema.specs.declared.queries.resolved.ResolvedReference.{ResolvedReference}
 use Rattle.pq_checks.specs.Compile.{file_faults}
 use Rattle.pq_checks.specs.Surroundings.{Surroundings, other_files, state_of}
-use Rattle.pq_checks.specs.declared.fault.Fault.{Fault}
-use Rattle.pq_checks.specs.declared.surroundings.Imported.{Imported}
+use Rattle.pq_checks.specs.declared.errors.fault.Fault.{Fault}
+use Rattle.pq_checks.specs.declared.around.surroundings.Imported.{Imported}
 
 -- `CheckWords K A` is what a sum of queries with the keys `K` and the answers `A` offers the query:
 -- the keys that it asks of a file, and what it reads of an answer

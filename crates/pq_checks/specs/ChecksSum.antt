@@ -9,14 +9,14 @@ use Rattle.pq_rules.specs.Value.{Means}
 use Rattle.pq_rules.specs.InSum.{InSum, ReadInSum}
 use Rattle.pq_links.specs.declared.links.Links.{Links}
 use Rattle.pq_schema.specs.SchemaSum.{SchemaSum}
-use Rattle.pq_schema.specs.declared.resolved.ResolvedReference.{ResolvedReference}
+use Rattle.pq_schema.specs.declared.queries.resolved.ResolvedReference.{ResolvedReference}
 use Rattle.pq_checks.specs.Answers.{CheckWords}
 use Rattle.pq_checks.specs.Compile.{AreFaults}
 use Rattle.pq_checks.specs.Diagnostics.{AreDiagnostics}
 use Rattle.pq_checks.specs.aux.DiagnosticsTurns.{diagnostics_level, diagnostics_starts, diagnostics_advances}
 use Rattle.pq_checks.specs.aux.Queries.{check_level, check_starts, check_advances}
-use Rattle.pq_checks.specs.declared.diagnostic.Diagnosed.{Diagnosed}
-use Rattle.pq_checks.specs.declared.fault.Fault.{Fault}
+use Rattle.pq_checks.specs.declared.errors.diagnostic.Diagnosed.{Diagnosed}
+use Rattle.pq_checks.specs.declared.errors.fault.Fault.{Fault}
 
 -- `words_of s referred ring` is what the sum `s` offers the query, where `referred` and `ring` read
 -- the resolved references and the files of a cycle of an answer
@@ -48,7 +48,7 @@ pub record ChecksSum {K P V : Type 0} (m : Instance K P V) (files : Sources) (s 
   pub no_ring : (l : Links) → ring_files (Value (s.linked.value l)) ≡ None
   -- the queries
   pub checks : ReadInSum m check_level (check_starts s.items.key) (λ key read q a. check_advances (words_of s referred_read ring_files) q a)
-  pub diagnostics : InSum m diagnostics_level (diagnostics_starts checks.key) (λ key q a. diagnostics_advances s.parse.key (checks.read a) (s.parse.read a) q)
+  pub diagnostics : InSum m diagnostics_level (diagnostics_starts s.parse.key) (λ key q a. diagnostics_advances checks.key (checks.read a) (s.parse.read a) q)
 
 -- `ChecksMeans m files s c` is that the answers of the checks and of the diagnostics of a file are
 -- what the sources say of its errors: `Means m key a` holds exactly of these answers `a`

@@ -4,10 +4,10 @@ use Rattle.std.specs.Prelude.{ℕ, List, codes}
 use Rattle.pq_lex.specs.declared.token.Code.TheVariants as lexical
 use Rattle.pq_syntax.specs.declared.fault.Code.{Code as SyntaxCode}
 use Rattle.pq_syntax.specs.declared.fault.Code.TheVariants as syntax
-use Rattle.pq_checks.specs.declared.code.Code.{Code}
-use Rattle.pq_checks.specs.declared.code.Code.TheVariants as code
-use Rattle.pq_checks.specs.declared.code.Severity.{Severity}
-use Rattle.pq_checks.specs.declared.code.Severity.TheVariants.{Error, Information}
+use Rattle.pq_checks.specs.declared.errors.code.Code.{Code}
+use Rattle.pq_checks.specs.declared.errors.code.Code.TheVariants as code
+use Rattle.pq_checks.specs.declared.errors.code.Severity.{Severity}
+use Rattle.pq_checks.specs.declared.errors.code.Severity.TheVariants.{Error, Information}
 
 -- `code_text c` is the code `c` as it is printed
 abbrev pub code_text : Code → List ℕ

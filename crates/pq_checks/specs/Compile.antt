@@ -9,8 +9,8 @@ use Rattle.pq_schema.specs.Compile.{IsScope, AreResolved, defs_at}
 use Rattle.pq_schema.specs.ScopeContents.{Scope}
 use Rattle.pq_checks.specs.Faults.{faults}
 use Rattle.pq_checks.specs.Surroundings.{Surroundings, other_files, state_of}
-use Rattle.pq_checks.specs.declared.surroundings.Imported.{Imported}
-use Rattle.pq_checks.specs.declared.fault.Fault.{Fault}
+use Rattle.pq_checks.specs.declared.around.surroundings.Imported.{Imported}
+use Rattle.pq_checks.specs.declared.errors.fault.Fault.{Fault}
 
 -- `imported_at files f` lists the files that the file `f` imports, each with its state
 abbrev pub imported_at : Sources → List ℕ → List Imported

@@ -1,6 +1,6 @@
 -- The diagnostics of a file (Language Server Protocol 3.17, "Document Diagnostics"): its syntax
 -- error, or its errors by the table, each at the span of its place, in order.
-use Rattle.std.specs.Prelude.{ℕ, ◌≡◌, List, [], ◌∷◌, filter_map, Option, Some, Contains}
+use Rattle.std.specs.Prelude.{ℕ, ◌≡◌, Bool, true, false, List, [], ◌∷◌, filter_map, Option, Some, Contains}
 use Rattle.std.specs.Option.{option_map}
 use Rattle.pq_inputs.specs.Sources.{Sources, file_in}
 use Rattle.pq_lex.specs.declared.token.Span.{Span}
@@ -16,9 +16,9 @@ use Rattle.pq_checks.specs.Codes.{syntax_code, syntax_text}
 use Rattle.pq_checks.specs.Compile.{AreFaults}
 use Rattle.pq_checks.specs.DiagnosticOrder.{diagnostic_cmp}
 use Rattle.pq_checks.specs.InOrder.{in_order}
-use Rattle.pq_checks.specs.declared.diagnostic.Diagnosed.{Diagnosed}
-use Rattle.pq_checks.specs.declared.diagnostic.Diagnostic.{Diagnostic}
-use Rattle.pq_checks.specs.declared.fault.Fault.{Fault}
+use Rattle.pq_checks.specs.declared.errors.diagnostic.Diagnosed.{Diagnosed}
+use Rattle.pq_checks.specs.declared.errors.diagnostic.Diagnostic.{Diagnostic}
+use Rattle.pq_checks.specs.declared.errors.fault.Fault.{Fault}
 
 -- `at_span f s` is the error `f`, at the span `s`
 abbrev pub at_span : Fault → Span → Diagnostic
@@ -53,11 +53,30 @@ diagnosed fs file = record { diagnostics = diagnostics_of fs file; file = file }
 abbrev pub AreDiagnostics : Sources → List ℕ → Diagnosed → Type 0
 AreDiagnostics files f d = (fs : List Fault) × AreFaults files f fs × (d ≡ diagnosed fs (read_file (file_in files f).text))
 
--- `AreDiagnosticsBy checks parse checked parsed f es d` is that the questions are for the errors of
--- the file `f` and for what it is read as, and that `d` is the diagnostics by their answers
+-- `is_tree p` is whether the tree or syntax error `p` is a tree
+abbrev pub is_tree : Parsed → Bool
+is_tree (Tree nodes) = true
+is_tree (SyntaxFault span c) = false
+
+-- `has_tree file` is whether a file that is read as `file` has a tree: an absent file has none, nor
+-- has one with a syntax error
+abbrev pub has_tree : ParsedFile → Bool
+has_tree Absent = false
+has_tree (Present p lines) = is_tree p
+
+-- `AsksErrors checks checked f tree es fs` is that the one question is for the errors of the file
+-- `f`, which are `fs`, if it has a `tree`, and that else there is no question and no such error
+abbrev pub AsksErrors : {K A : Type 0} → (checks : List ℕ → K) → (A → List Fault) → List ℕ → Bool → List (K × A) → List Fault → Type 0
+AsksErrors {A = A} checks checked f true es fs = (a : A) × (es ≡ (checks f, a) ∷ []) × (fs ≡ checked a)
+AsksErrors checks checked f false es fs = (es ≡ []) × (fs ≡ [])
+
+-- `AreDiagnosticsBy checks parse checked parsed f es d` is that the first question is for what the
+-- file `f` is read as, that one for its errors follows exactly if that is a tree, and that `d` is
+-- the diagnostics by their answers
 abbrev pub AreDiagnosticsBy : {K A : Type 0} → (checks parse : List ℕ → K) → (A → List Fault) → (A → ParsedFile) → List ℕ → List (K × A) → Diagnosed → Type 0
-AreDiagnosticsBy {A = A} checks parse checked parsed f es d =
-    (a b : A) × (es ≡ (checks f, a) ∷ (parse f, b) ∷ []) × (d ≡ diagnosed (checked a) (parsed b))
+AreDiagnosticsBy {K = K} {A = A} checks parse checked parsed f es d =
+    (b : A) × (rest : List (K × A)) × (fs : List Fault) × (es ≡ (parse f, b) ∷ rest)
+    × AsksErrors checks checked f (has_tree (parsed b)) rest fs × (d ≡ diagnosed fs (parsed b))
 
 -- `Stands nodes f` is that a file with the statements `nodes` has the place of the error `f`
 abbrev pub Stands : List Node → Fault → Type 0

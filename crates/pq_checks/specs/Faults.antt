@@ -2,9 +2,10 @@
 -- of which item it is, and its message (proto3 language specification; the codes are this project's
 -- own). A syntax error is none of them: a file that has one has no tree.
 --
--- `faults s nodes` lists the errors of a file with the tree `nodes` and the surroundings `s`. The
--- law `each_fault` reads it as the table, and `each_stands` says that each is at a part of the tree.
-use Rattle.std.specs.Prelude.{ℕ, nat_eq, ◌&&◌, not, ℤ, pos, cond, Bool, true, false, List, [], ◌∷◌, ◌++◌, codes, flat_map, is_some, bytes_eq, Option, Some, None, slice_get}
+-- `table s nodes` is the table of a file with the tree `nodes` and the surroundings `s`: each line
+-- says the clauses of the elements of one list. `faults s nodes` lists all that the lines say. The law
+-- `each_fault` says that these are the errors, and `each_stands` that each is at a part of the tree.
+use Rattle.std.specs.Prelude.{ℕ, nat_eq, ◌&&◌, not, ℤ, pos, cond, Bool, true, false, List, [], ◌∷◌, ◌++◌, codes, is_some, bytes_eq, Option, Some, None, slice_get}
 use Rattle.std.specs.Fmt.{signed_decimal}
 use Rattle.std.specs.List.{list_any}
 use Rattle.std.specs.Option.{option_eq}
@@ -22,25 +23,26 @@ use Rattle.pq_links.specs.declared.places.Part.{Part}
 use Rattle.pq_links.specs.declared.places.Part.TheVariants as part
 use Rattle.pq_links.specs.declared.places.TypePart.{TypePart}
 use Rattle.pq_links.specs.declared.places.TypePart.TheVariants as types
-use Rattle.pq_schema.specs.declared.definitions.Definition.{Definition}
-use Rattle.pq_schema.specs.declared.definitions.DefinitionKind.{DefinitionKind}
-use Rattle.pq_schema.specs.declared.definitions.DefinitionKind.TheVariants as kinds
-use Rattle.pq_schema.specs.declared.resolution.Resolution.{Resolution}
-use Rattle.pq_schema.specs.declared.resolution.Resolution.TheVariants as resolutions
-use Rattle.pq_schema.specs.declared.resolved.ResolvedReference.{ResolvedReference}
-use Rattle.pq_schema.specs.declared.scope.FileDefs.{FileDefs}
-use Rattle.pq_checks.specs.Earlier.{of_each_after}
-use Rattle.pq_checks.specs.Members.{Member, fields, values, packages, oneofs, enums, ranges, ReservedName, reserved_names, ImportName, imports, Opted, option_statements, Assigned, constants, extends}
+use Rattle.pq_schema.specs.declared.define.definitions.Definition.{Definition}
+use Rattle.pq_schema.specs.declared.define.definitions.DefinitionKind.{DefinitionKind}
+use Rattle.pq_schema.specs.declared.define.definitions.DefinitionKind.TheVariants as kinds
+use Rattle.pq_schema.specs.declared.search.resolution.Resolution.{Resolution}
+use Rattle.pq_schema.specs.declared.search.resolution.Resolution.TheVariants as resolutions
+use Rattle.pq_schema.specs.declared.queries.resolved.ResolvedReference.{ResolvedReference}
+use Rattle.pq_schema.specs.declared.scope.scope.FileDefs.{FileDefs}
+use Rattle.pq_checks.specs.Line.{Line, each, after, unless, all_said, IsSaidByOne}
+use Rattle.pq_checks.specs.Members.{Sited, sited, of_kind, Member, fields, values, ranges, ReservedName, reserved_names, ImportName, imports, Opted, option_statements, Assigned, constants}
 use Rattle.pq_checks.specs.Numbers.{Limits, field_limits, enum_limits, number_in, bounds_of, is_between}
 use Rattle.pq_checks.specs.Owners.{limits_by}
 use Rattle.pq_checks.specs.Surroundings.{Surroundings, state_in, first_with}
-use Rattle.pq_checks.specs.declared.surroundings.FileState.{FileState}
-use Rattle.pq_checks.specs.declared.surroundings.FileState.TheVariants.{Missing, Unreadable, Readable}
-use Rattle.pq_checks.specs.declared.code.Code.{Code}
-use Rattle.pq_checks.specs.declared.code.Code.TheVariants as code
-use Rattle.pq_checks.specs.declared.fault.Fault.{Fault}
-use Rattle.pq_checks.specs.declared.members.Reserved.{Reserved}
-use Rattle.pq_checks.specs.declared.numbers.Bounds.{Bounds}
+use Rattle.pq_checks.specs.declared.around.surroundings.FileState.{FileState}
+use Rattle.pq_checks.specs.declared.around.surroundings.FileState.TheVariants.{Missing, Unreadable, Readable}
+use Rattle.pq_checks.specs.declared.errors.code.Code.{Code}
+use Rattle.pq_checks.specs.declared.errors.code.Code.TheVariants as code
+use Rattle.pq_checks.specs.declared.errors.fault.Fault.{Fault}
+use Rattle.pq_checks.specs.declared.tree.members.Kind.TheVariants.{Package, Oneof, Enum, Extend}
+use Rattle.pq_checks.specs.declared.tree.members.Reserved.{Reserved}
+use Rattle.pq_checks.specs.declared.tree.numbers.Bounds.{Bounds}
 
 -- ---- how a line is said
 
@@ -113,22 +115,32 @@ abbrev pub ring_text : List (List ℕ) → List ℕ
 ring_text [] = codes "import cycle: "
 ring_text (f ∷ fs) = codes "import cycle: " ++ arrowed (f ∷ fs) f
 
--- `ring_faults ring next earlier i` is P105 of the import `i` after the imports `earlier`, in a file
--- with the ring `ring` and the first bad import `next`
-abbrev pub ring_faults : Option (List (List ℕ)) → Option (List ℕ) → List ImportName → ImportName → List Fault
-ring_faults (Some ring) (Some next) earlier i =
-    when (bytes_eq i.value next && not (is_listed i.value earlier)) (at i.item part.Name code.ImportCycle (ring_text ring))
-ring_faults _ _ earlier i = []
+-- `ring_faults ring next repeated i` is P105 of the import `i`, whose name is `repeated` or not, in a
+-- file with the ring `ring` and the first bad import `next`
+abbrev pub ring_faults : Option (List (List ℕ)) → Option (List ℕ) → Bool → ImportName → List Fault
+ring_faults (Some ring) (Some next) repeated i =
+    when (bytes_eq i.value next && not repeated) (at i.item part.Name code.ImportCycle (ring_text ring))
+ring_faults _ _ repeated i = []
+
+-- `listed_faults repeated i` is P103 of the import `i`, whose name is `repeated` or not
+abbrev pub listed_faults : Bool → ImportName → List Fault
+listed_faults repeated i = when repeated (at i.item part.Name code.ImportTwice (codes "import " ++ quoted i.value ++ codes " is listed twice"))
+
+-- `named_faults state ring next repeated i` is P102 to P105 of the import `i`, where `state` is the
+-- state of its file
+abbrev pub named_faults : FileState → Option (List (List ℕ)) → Option (List ℕ) → Bool → ImportName → List Fault
+named_faults state ring next repeated i = state_faults state i ++ listed_faults repeated i ++ ring_faults ring next repeated i
+
+-- `import_faults_by state ring next repeated i` is these of a name that is UTF-8; of another name
+-- only P106 is said
+abbrev pub import_faults_by : FileState → Option (List (List ℕ)) → Option (List ℕ) → Bool → ImportName → List Fault
+import_faults_by state ring next repeated i =
+    cond (is_utf8 i.value) (named_faults state ring next repeated i) (at i.item part.Name code.ImportNotText (codes "import name is not UTF-8") ∷ [])
 
 -- `import_faults s earlier i` is the errors of the import `i` after the imports `earlier`, in a
--- file with the surroundings `s`. Of a name that is not UTF-8 only that is said.
+-- file with the surroundings `s`
 abbrev pub import_faults : Surroundings → List ImportName → ImportName → List Fault
-import_faults s earlier i =
-    cond (is_utf8 i.value)
-    (state_faults (state_in s.imported i.value) i
-    ++ when (is_listed i.value earlier) (at i.item part.Name code.ImportTwice (codes "import " ++ quoted i.value ++ codes " is listed twice"))
-    ++ ring_faults s.ring s.next earlier i)
-    (at i.item part.Name code.ImportNotText (codes "import name is not UTF-8") ∷ [])
+import_faults s earlier i = import_faults_by (state_in s.imported i.value) s.ring s.next (is_listed i.value earlier) i
 
 -- ---- P110 and P111: definitions
 
@@ -201,19 +213,26 @@ abbrev pub is_for_protobuf : Option ℤ → Bool
 is_for_protobuf None = false
 is_for_protobuf (Some z) = is_between (pos 19000) (pos 19999) z
 
+-- `field_faults number twice reserved f` is P120 to P123 of the field `f` of the number `number`:
+-- `twice` is whether a field before it has the number, and `reserved` whether that is reserved
+abbrev pub field_faults : Option ℤ → Bool → Bool → Member → List Fault
+field_faults number twice reserved f =
+    when (not (is_some number)) (at f.item part.Number code.FieldNumberOutOfRange (codes "field number must be from 1 to 536870911"))
+    ++ when (is_for_protobuf number) (at f.item part.Number code.FieldNumberOfProtobuf (codes "field numbers 19000 to 19999 are reserved"))
+    ++ when twice (at f.item part.Number code.FieldNumberTwice (codes "field number " ++ number_text number ++ codes " is used twice"))
+    ++ when reserved (at f.item part.Number code.FieldNumberReserved (codes "field number " ++ number_text number ++ codes " is reserved"))
+
 -- `field_number_faults reserved earlier f` is P120 to P123 of the field `f` after the fields
 -- `earlier`, where `reserved` lists the reserved ranges
 abbrev pub field_number_faults : List Reserved → List Member → Member → List Fault
 field_number_faults reserved earlier f = let number = number_in field_limits f.number in
-    when (not (is_some number)) (at f.item part.Number code.FieldNumberOutOfRange (codes "field number must be from 1 to 536870911"))
-    ++ when (is_for_protobuf number) (at f.item part.Number code.FieldNumberOfProtobuf (codes "field numbers 19000 to 19999 are reserved"))
-    ++ when (has_number field_limits f.owner number earlier) (at f.item part.Number code.FieldNumberTwice (codes "field number " ++ number_text number ++ codes " is used twice"))
-    ++ when (is_reserved f.owner number reserved) (at f.item part.Number code.FieldNumberReserved (codes "field number " ++ number_text number ++ codes " is reserved"))
+    field_faults number (has_number field_limits f.owner number earlier) (is_reserved f.owner number reserved) f
 
--- `field_name_faults names f` is P124 of the field `f`, where `names` lists the reserved names
-abbrev pub field_name_faults : List ReservedName → Member → List Fault
-field_name_faults names f =
-    when (is_reserved_name f.owner f.name.text names) (at f.item part.Name code.FieldNameReserved (codes "field name " ++ quoted f.name.text ++ codes " is reserved"))
+-- `name_faults c before names m` is the error of the code `c` of the field or enum value `m`, if its
+-- name is one of the reserved names `names`; its message begins with `before`
+abbrev pub name_faults : Code → List ℕ → List ReservedName → Member → List Fault
+name_faults c before names m =
+    when (is_reserved_name m.owner m.name.text names) (at m.item part.Name c (before ++ quoted m.name.text ++ codes " is reserved"))
 
 -- `range_faults r` is P125 of the reserved range `r`
 abbrev pub range_faults : Reserved → List Fault
@@ -226,13 +245,10 @@ range_faults r =
 abbrev pub is_empty : ℕ → List Member → Bool
 is_empty body members = not (list_any (λ (m : Member). same_item (Some body) m.holder) members)
 
--- `oneof_faults fields o` is P126 of the oneof `o`
-abbrev pub oneof_faults : List Member → ℕ → List Fault
-oneof_faults fields o = when (is_empty o fields) (at o part.Name code.EmptyOneof (codes "oneof has no field"))
-
--- `enum_faults values e` is P130 of the enum `e`
-abbrev pub enum_faults : List Member → ℕ → List Fault
-enum_faults values e = when (is_empty e values) (at e part.Name code.EmptyEnum (codes "enum has no value"))
+-- `body_faults c text members b` is the error of the code `c` with the message `text` of the statement
+-- `b`, if none of `members` is in its body
+abbrev pub body_faults : Code → List ℕ → List Member → ℕ → List Fault
+body_faults c text members b = when (is_empty b members) (at b part.Name c text)
 
 -- `is_named name parts` is whether an option's name with the parts `parts` is the one name `name`
 abbrev pub is_named : List ℕ → List NamePart → Bool
@@ -272,19 +288,21 @@ abbrev pub is_zero : Option ℤ → Bool
 is_zero None = false
 is_zero (Some z) = int_eq z (pos 0)
 
+-- `value_faults number first twice reserved v` is P131 to P134 of the enum value `v` of the number
+-- `number`: `first` is whether it is the first of its enum, `twice` whether one before it has the
+-- number with no alias allowed, and `reserved` whether the number is reserved
+abbrev pub value_faults : Option ℤ → Bool → Bool → Bool → Member → List Fault
+value_faults number first twice reserved v =
+    when (first && not (is_zero number)) (at v.item part.Number code.FirstValueNotZero (codes "the first enum value must be 0"))
+    ++ when (not (is_some number)) (at v.item part.Number code.EnumNumberOutOfRange (codes "enum number must be from -2147483648 to 2147483647"))
+    ++ when twice (at v.item part.Number code.EnumNumberTwice (codes "enum number " ++ number_text number ++ codes " is used twice without allow_alias"))
+    ++ when reserved (at v.item part.Number code.EnumNumberReserved (codes "enum number " ++ number_text number ++ codes " is reserved"))
+
 -- `value_number_faults reserved options earlier v` is P131 to P134 of the enum value `v` after the
 -- values `earlier`, where `reserved` lists the reserved ranges and `options` the options
 abbrev pub value_number_faults : List Reserved → List Opted → List Member → Member → List Fault
 value_number_faults reserved options earlier v = let number = number_in enum_limits v.number in
-    when (is_first v earlier && not (is_zero number)) (at v.item part.Number code.FirstValueNotZero (codes "the first enum value must be 0"))
-    ++ when (not (is_some number)) (at v.item part.Number code.EnumNumberOutOfRange (codes "enum number must be from -2147483648 to 2147483647"))
-    ++ when (has_number enum_limits v.owner number earlier && not (allows_alias options v.owner)) (at v.item part.Number code.EnumNumberTwice (codes "enum number " ++ number_text number ++ codes " is used twice without allow_alias"))
-    ++ when (is_reserved v.owner number reserved) (at v.item part.Number code.EnumNumberReserved (codes "enum number " ++ number_text number ++ codes " is reserved"))
-
--- `value_name_faults names v` is P135 of the enum value `v`, where `names` lists the reserved names
-abbrev pub value_name_faults : List ReservedName → Member → List Fault
-value_name_faults names v =
-    when (is_reserved_name v.owner v.name.text names) (at v.item part.Name code.EnumValueNameReserved (codes "enum value name " ++ quoted v.name.text ++ codes " is reserved"))
+    value_faults number (is_first v earlier) (has_number enum_limits v.owner number earlier && not (allows_alias options v.owner)) (is_reserved v.owner number reserved) v
 
 -- ---- P150 to P153: type references
 
@@ -323,53 +341,72 @@ reference_faults nodes r = of_node (slice_get nodes r.item)
     of_node None = []
     of_node (Some n) = of_name (named_type r.part n.statement)
 
--- ---- the file
+-- ---- the table
 
--- `unread_faults nodes` is P020 to P022
-abbrev pub unread_faults : List Node → List Fault
-unread_faults nodes = flat_map constant_faults (constants nodes) ++ flat_map extend_faults (extends nodes)
+-- `unread_table all` is P020 to P022 of the statements `all`
+abbrev pub unread_table : List Sited → List Line
+unread_table all =
+    each constant_faults (constants all)
+    ∷ each extend_faults (of_kind Extend all)
+    ∷ []
 
--- `link_faults s nodes` is P101 to P106
-abbrev pub link_faults : Surroundings → List Node → List Fault
-link_faults s nodes =
-    of_each_after package_faults [] (packages nodes)
-    ++ of_each_after (import_faults s) [] (imports nodes)
+-- `link_table s all` is P101 to P106 of the statements `all`
+abbrev pub link_table : Surroundings → List Sited → List Line
+link_table s all =
+    after package_faults (of_kind Package all)
+    ∷ after (import_faults s) (imports all)
+    ∷ []
 
--- `in_good s fs` is `fs` in a file with the surroundings `s` that is good, and nothing in a bad one
-abbrev pub in_good : Surroundings → List Fault → List Fault
-in_good s fs = cond (is_some s.ring) [] fs
+-- `in_good s l` is the line `l` of a file with the surroundings `s` that is good; a bad file has no
+-- error of it
+abbrev pub in_good : Surroundings → Line → Line
+in_good s l = unless (is_some s.ring) l
 
--- `definition_faults s nodes` is P110 and P111
-abbrev pub definition_faults : Surroundings → List Node → List Fault
-definition_faults s nodes =
-    of_each_after twice_faults [] s.definitions
-    ++ in_good s (flat_map (elsewhere_faults s.others nodes) s.definitions)
+-- `definition_table s nodes` is P110 and P111
+abbrev pub definition_table : Surroundings → List Node → List Line
+definition_table s nodes =
+    after twice_faults s.definitions
+    ∷ in_good s (each (elsewhere_faults s.others nodes) s.definitions)
+    ∷ []
 
--- `message_faults nodes` is P120 to P126
-abbrev pub message_faults : List Node → List Fault
-message_faults nodes =
-    of_each_after (field_number_faults (ranges nodes)) [] (fields nodes)
-    ++ flat_map (field_name_faults (reserved_names nodes)) (fields nodes)
-    ++ flat_map range_faults (ranges nodes)
-    ++ flat_map (oneof_faults (fields nodes)) (oneofs nodes)
+-- `message_table all` is P120 to P126 of the statements `all`
+abbrev pub message_table : List Sited → List Line
+message_table all =
+    after (field_number_faults (ranges all)) (fields all)
+    ∷ each (name_faults code.FieldNameReserved (codes "field name ") (reserved_names all)) (fields all)
+    ∷ each range_faults (ranges all)
+    ∷ each (body_faults code.EmptyOneof (codes "oneof has no field") (fields all)) (of_kind Oneof all)
+    ∷ []
 
--- `enumeration_faults nodes` is P130 to P135
-abbrev pub enumeration_faults : List Node → List Fault
-enumeration_faults nodes =
-    flat_map (enum_faults (values nodes)) (enums nodes)
-    ++ of_each_after (value_number_faults (ranges nodes) (option_statements nodes)) [] (values nodes)
-    ++ flat_map (value_name_faults (reserved_names nodes)) (values nodes)
+-- `enumeration_table all` is P130 to P135 of the statements `all`
+abbrev pub enumeration_table : List Sited → List Line
+enumeration_table all =
+    each (body_faults code.EmptyEnum (codes "enum has no value") (values all)) (of_kind Enum all)
+    ∷ after (value_number_faults (ranges all) (option_statements all)) (values all)
+    ∷ each (name_faults code.EnumValueNameReserved (codes "enum value name ") (reserved_names all)) (values all)
+    ∷ []
 
--- `type_faults s nodes` is P150 to P153
-abbrev pub type_faults : Surroundings → List Node → List Fault
-type_faults s nodes = in_good s (flat_map (reference_faults nodes) s.references)
+-- `type_table s nodes` is P150 to P153
+abbrev pub type_table : Surroundings → List Node → List Line
+type_table s nodes =
+    in_good s (each (reference_faults nodes) s.references)
+    ∷ []
 
--- `faults s nodes` lists the errors of a file with the statements `nodes` and the surroundings `s`
+-- `table s nodes` is the table of errors of a file with the statements `nodes` and the surroundings
+-- `s`
+abbrev pub table : Surroundings → List Node → List Line
+table s nodes =
+    unread_table (sited nodes)
+    ++ link_table s (sited nodes)
+    ++ definition_table s nodes
+    ++ message_table (sited nodes)
+    ++ enumeration_table (sited nodes)
+    ++ type_table s nodes
+
+-- `faults s nodes` lists the errors of that file: all that the lines of the table say
 abbrev pub faults : Surroundings → List Node → List Fault
-faults s nodes =
-    unread_faults nodes
-    ++ link_faults s nodes
-    ++ definition_faults s nodes
-    ++ message_faults nodes
-    ++ enumeration_faults nodes
-    ++ type_faults s nodes
+faults s nodes = all_said (table s nodes)
+
+-- `IsFault s nodes x` is that `x` is an error of that file: one line says it
+abbrev pub IsFault : Surroundings → List Node → Fault → Type 0
+IsFault s nodes x = IsSaidByOne (table s nodes) x

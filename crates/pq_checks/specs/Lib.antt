@@ -5,9 +5,9 @@ pub mod Numbers
 pub mod Owners
 pub mod Members
 pub mod Surroundings
+pub mod Line
 pub mod Faults
 pub mod DiagnosticOrder
-pub mod EachFault
 pub mod Compile
 pub mod Answers
 pub mod ChecksSum

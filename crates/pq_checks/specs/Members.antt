@@ -1,7 +1,7 @@
 -- What the checks look at in a tree: its fields, enum values, reserved ranges and the like, each
 -- list in text order. `item` is the number of the statement, `nth` counts its parts from 0. Packages,
 -- oneofs, enums and extend blocks are listed by the numbers of their statements.
-use Rattle.std.specs.Prelude.{ℕ, List, [], ◌∷◌, map, flat_map, Option}
+use Rattle.std.specs.Prelude.{ℕ, Bool, true, false, cond, List, [], ◌∷◌, map, flat_map, Option}
 use Rattle.std.specs.List.{enumerate_from}
 use Rattle.pq_syntax.specs.declared.parts.ConstantKind.{ConstantKind}
 use Rattle.pq_syntax.specs.declared.parts.Name.{Name}
@@ -14,11 +14,25 @@ use Rattle.pq_syntax.specs.declared.tree.Statement.{Statement}
 use Rattle.pq_syntax.specs.declared.tree.Statement.TheVariants.{Import, Package, Option as OptionStatement, Field, MapField, Oneof, ReservedNumbers, ReservedNames, Enum, Value, Extend}
 use Rattle.pq_syntax.specs.Places.{Place, places}
 use Rattle.pq_checks.specs.Owners.{Site, site_of}
-use Rattle.pq_checks.specs.declared.members.Reserved.{Reserved}
+use Rattle.pq_checks.specs.declared.tree.members.Kind.{Kind}
+use Rattle.pq_checks.specs.declared.tree.members.Kind.TheVariants as kind
+use Rattle.pq_checks.specs.declared.tree.members.Reserved.{Reserved}
 
--- `each_at f nodes` joins what `f` lists of each of the statements `nodes`, with what contains it
-abbrev pub each_at : {A : Type 0} → (Site → Statement → List A) → List Node → List A
-each_at f nodes = flat_map (λ (p : Place). f (site_of p) p.item.node.statement) (places nodes)
+-- A `Sited` is a statement, with its number and what contains it
+abbrev pub Sited : Type 0
+Sited = Site × Node
+
+-- `sited_at p` is the statement at the place `p`
+abbrev pub sited_at : Place → Sited
+sited_at p = (site_of p, p.item.node)
+
+-- `sited nodes` lists the statements `nodes`, each with its number and what contains it
+abbrev pub sited : List Node → List Sited
+sited nodes = map sited_at (places nodes)
+
+-- `each_at f all` joins what `f` lists of each of the statements `all`
+abbrev pub each_at : {A : Type 0} → (Site → Statement → List A) → List Sited → List A
+each_at f all = flat_map (λ (s : Sited). f s.0 s.1.statement) all
 
 -- ---- fields and enum values
 
@@ -42,47 +56,36 @@ field_at s (Field label kind name number options) = member_at s name number ∷ 
 field_at s (MapField key value name number options) = member_at s name number ∷ []
 field_at s _ = []
 
--- `fields nodes` lists the fields of the statements `nodes`, those of oneofs among them
-abbrev pub fields : List Node → List Member
-fields nodes = each_at field_at nodes
+-- `fields all` lists the fields of the statements `all`, those of oneofs among them
+abbrev pub fields : List Sited → List Member
+fields all = each_at field_at all
 
 -- `value_at s t` lists the enum value that the statement `t` at `s` is, if any
 abbrev pub value_at : Site → Statement → List Member
 value_at s (Value name number options) = member_at s name number ∷ []
 value_at s _ = []
 
--- `values nodes` lists the enum values of the statements `nodes`
-abbrev pub values : List Node → List Member
-values nodes = each_at value_at nodes
+-- `values all` lists the enum values of the statements `all`
+abbrev pub values : List Sited → List Member
+values all = each_at value_at all
 
--- ---- packages, oneofs and enums
+-- ---- packages, oneofs, enums and extend blocks
 
--- `package_at s t` lists the package that the statement `t` at `s` is, if any
-abbrev pub package_at : Site → Statement → List ℕ
-package_at s (Package name) = s.item ∷ []
-package_at s _ = []
+-- `is_of t kind` is whether the statement `t` is of the kind `kind`
+abbrev pub is_of : Statement → Kind → Bool
+is_of (Package name) kind.Package = true
+is_of (Oneof name) kind.Oneof = true
+is_of (Enum name) kind.Enum = true
+is_of (Extend name) kind.Extend = true
+is_of _ _ = false
 
--- `packages nodes` lists the package statements of `nodes`
-abbrev pub packages : List Node → List ℕ
-packages nodes = each_at package_at nodes
+-- `of_kind_at kind s t` lists the number of the statement `t` at `s` if it is of the kind `kind`
+abbrev pub of_kind_at : Kind → Site → Statement → List ℕ
+of_kind_at kind s t = cond (is_of t kind) (s.item ∷ []) []
 
--- `oneof_at s t` lists the oneof that the statement `t` at `s` is, if any
-abbrev pub oneof_at : Site → Statement → List ℕ
-oneof_at s (Oneof name) = s.item ∷ []
-oneof_at s _ = []
-
--- `oneofs nodes` lists the oneofs of the statements `nodes`
-abbrev pub oneofs : List Node → List ℕ
-oneofs nodes = each_at oneof_at nodes
-
--- `enum_at s t` lists the enum that the statement `t` at `s` is, if any
-abbrev pub enum_at : Site → Statement → List ℕ
-enum_at s (Enum name) = s.item ∷ []
-enum_at s _ = []
-
--- `enums nodes` lists the enums of the statements `nodes`
-abbrev pub enums : List Node → List ℕ
-enums nodes = each_at enum_at nodes
+-- `of_kind kind all` lists the numbers of the statements of the kind `kind` among `all`
+abbrev pub of_kind : Kind → List Sited → List ℕ
+of_kind kind all = each_at (of_kind_at kind) all
 
 -- ---- what is reserved
 
@@ -95,9 +98,9 @@ abbrev pub range_at : Site → Statement → List Reserved
 range_at s (ReservedNumbers ranges) = map (reserved_range s) (enumerate_from 0 ranges)
 range_at s _ = []
 
--- `ranges nodes` lists the reserved ranges of the statements `nodes`
-abbrev pub ranges : List Node → List Reserved
-ranges nodes = each_at range_at nodes
+-- `ranges all` lists the reserved ranges of the statements `all`
+abbrev pub ranges : List Sited → List Reserved
+ranges all = each_at range_at all
 
 -- A `ReservedName` is a reserved name of the message or enum of the number `owner`
 pub record ReservedName : Type 0 where
@@ -113,11 +116,11 @@ abbrev pub name_at : Site → Statement → List ReservedName
 name_at s (ReservedNames names) = map (reserved_name s.around.owner) names
 name_at s _ = []
 
--- `reserved_names nodes` lists the reserved names of the statements `nodes`
-abbrev pub reserved_names : List Node → List ReservedName
-reserved_names nodes = each_at name_at nodes
+-- `reserved_names all` lists the reserved names of the statements `all`
+abbrev pub reserved_names : List Sited → List ReservedName
+reserved_names all = each_at name_at all
 
--- ---- imports, options, extend blocks
+-- ---- imports and options
 
 -- An `ImportName` is an import with the name of its file
 pub record ImportName : Type 0 where
@@ -129,9 +132,9 @@ abbrev pub import_at : Site → Statement → List ImportName
 import_at s (Import kind file) = record { item = s.item; value = file.value } ∷ []
 import_at s _ = []
 
--- `imports nodes` lists the import statements of `nodes`
-abbrev pub imports : List Node → List ImportName
-imports nodes = each_at import_at nodes
+-- `imports all` lists the import statements of `all`
+abbrev pub imports : List Sited → List ImportName
+imports all = each_at import_at all
 
 -- An `Opted` is an option statement in the body of the statement of the number `holder`
 pub record Opted : Type 0 where
@@ -143,9 +146,9 @@ abbrev pub option_at : Site → Statement → List Opted
 option_at s (OptionStatement setting) = record { holder = s.around.holder; setting = setting } ∷ []
 option_at s _ = []
 
--- `option_statements nodes` lists the option statements of `nodes`
-abbrev pub option_statements : List Node → List Opted
-option_statements nodes = each_at option_at nodes
+-- `option_statements all` lists the option statements of `all`
+abbrev pub option_statements : List Sited → List Opted
+option_statements all = each_at option_at all
 
 -- An `Assigned` is the kind of the constant of an option: of the option `nth` of its statement
 pub record Assigned : Type 0 where
@@ -171,15 +174,6 @@ constant_at s (MapField key value name number options) = all_assigned s.item opt
 constant_at s (Value name number options) = all_assigned s.item options
 constant_at s _ = []
 
--- `constants nodes` lists the constants of the options of the statements `nodes`
-abbrev pub constants : List Node → List Assigned
-constants nodes = each_at constant_at nodes
-
--- `extend_at s t` lists the extend block that the statement `t` at `s` is, if any
-abbrev pub extend_at : Site → Statement → List ℕ
-extend_at s (Extend kind) = s.item ∷ []
-extend_at s _ = []
-
--- `extends nodes` lists the extend blocks of `nodes`
-abbrev pub extends : List Node → List ℕ
-extends nodes = each_at extend_at nodes
+-- `constants all` lists the constants of the options of the statements `all`
+abbrev pub constants : List Sited → List Assigned
+constants all = each_at constant_at all

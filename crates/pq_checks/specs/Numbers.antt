@@ -6,7 +6,7 @@ use Rattle.pq_syntax.specs.declared.parts.Number.{Number}
 use Rattle.pq_syntax.specs.declared.parts.Range.{Range}
 use Rattle.pq_syntax.specs.declared.parts.RangeEnd.{RangeEnd}
 use Rattle.pq_syntax.specs.declared.parts.RangeEnd.TheVariants.{Alone, To, Max}
-use Rattle.pq_checks.specs.declared.numbers.Bounds.{Bounds}
+use Rattle.pq_checks.specs.declared.tree.numbers.Bounds.{Bounds}
 
 -- `Limits` is the least and the greatest number of a kind
 pub record Limits : Type 0 where

@@ -4,7 +4,7 @@ use Rattle.pq_syntax.specs.Places.{Item, Place}
 use Rattle.pq_syntax.specs.declared.tree.Statement.{Statement}
 use Rattle.pq_syntax.specs.declared.tree.Statement.TheVariants.{Oneof, Enum}
 use Rattle.pq_checks.specs.Numbers.{Limits, field_limits, enum_limits}
-use Rattle.pq_checks.specs.declared.spots.Around.{Around}
+use Rattle.pq_checks.specs.declared.tree.spots.Around.{Around}
 
 -- `is_oneof s` is whether the statement `s` is a oneof
 abbrev pub is_oneof : Statement → Bool

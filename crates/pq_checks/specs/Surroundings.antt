@@ -3,13 +3,13 @@
 use Rattle.std.specs.Prelude.{ℕ, cond, bytes_eq, List, [], ◌∷◌, Option}
 use Rattle.pq_links.specs.declared.file_items.FileItems.{FileItems}
 use Rattle.pq_links.specs.declared.file_items.FileItems.TheVariants.{Absent, Fault, Tree}
-use Rattle.pq_schema.specs.declared.definitions.Definition.{Definition}
-use Rattle.pq_schema.specs.declared.resolved.ResolvedReference.{ResolvedReference}
-use Rattle.pq_schema.specs.declared.scope.FileDefs.{FileDefs}
+use Rattle.pq_schema.specs.declared.define.definitions.Definition.{Definition}
+use Rattle.pq_schema.specs.declared.queries.resolved.ResolvedReference.{ResolvedReference}
+use Rattle.pq_schema.specs.declared.scope.scope.FileDefs.{FileDefs}
 pub use Rattle.pq_schema.specs.Others.{other_files, first_with}
-use Rattle.pq_checks.specs.declared.surroundings.FileState.{FileState}
-use Rattle.pq_checks.specs.declared.surroundings.FileState.TheVariants.{Missing, Unreadable, Readable}
-use Rattle.pq_checks.specs.declared.surroundings.Imported.{Imported}
+use Rattle.pq_checks.specs.declared.around.surroundings.FileState.{FileState}
+use Rattle.pq_checks.specs.declared.around.surroundings.FileState.TheVariants.{Missing, Unreadable, Readable}
+use Rattle.pq_checks.specs.declared.around.surroundings.Imported.{Imported}
 
 -- `state_of i` is the state of a file that is `i` without spans
 abbrev pub state_of : FileItems → FileState

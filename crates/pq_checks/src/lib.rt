@@ -8,57 +8,37 @@
 //! answers through `CheckKeys`. The law `checks_in_rules` says that in every rule set that embeds
 //! them their answers are what the sources say.
 //!
-//! Modules: `code`, `fault`, `diagnostic`; `spots` (each statement with what contains it), `members` (what the
-//! checks look at), `numbers`; `cover`, `order` (the look-ups); `said`, `tell`
-//! (how an error is added); the errors of a tree: `unread_lines`, and `member_lines` over
-//! `field_lines`, `range_lines`, `body_lines`, `value_lines`, `aliases`, `name_lines`; the errors
-//! of its surroundings (`surroundings`): `import_lines`, `definition_lines`, `reference_lines`;
-//! `keys` (what a sum offers), `answered`, `gathered` and `checked` (the query of the errors),
-//! `diagnostics`;
-//! `laws`, `rule_laws`.
+//! Folders, each over those before it (`around` not over `lines`):
+//!
+//! - `errors`: codes, errors and diagnostics, and how an error is said.
+//! - `tree`: what the checks look at.
+//! - `lines`: the errors of a tree.
+//! - `around`: the errors by the surroundings of a file.
+//! - `queries`: the queries of both.
+//!
+//! `laws` has the laws of definitions and of the queries, `rule_laws` that of the queries in a rule
+//! set.
 #![tactic(auto)]
 
-mod aliases;
-mod answered;
-mod body_lines;
-mod checked;
-mod code;
-mod cover;
-mod definition_lines;
-mod diagnostic;
-mod diagnostics;
-mod fault;
-mod field_lines;
-mod gathered;
-mod import_lines;
-mod keys;
+mod around;
+mod errors;
 mod laws;
-mod member_lines;
-mod members;
-mod name_lines;
-mod numbers;
-mod order;
-mod range_lines;
-mod reference_lines;
+mod lines;
+mod queries;
 mod rule_laws;
-mod said;
-mod spots;
-mod surroundings;
-mod tell;
-mod unread_lines;
-mod value_lines;
+mod tree;
 
-pub use checked::{CheckPart, ChecksQuery};
-pub use code::{Code, Severity};
-pub use diagnostic::{Diagnosed, Diagnostic};
-pub use diagnostics::{DiagnosticsPart, DiagnosticsQuery};
-pub use fault::Fault;
-pub use gathered::{Known, LinkedFile, States, Waiting};
-pub use keys::CheckKeys;
+pub use around::surroundings::{FileState, Imported};
+pub use errors::code::{Code, Severity};
+pub use errors::diagnostic::{Diagnosed, Diagnostic};
+pub use errors::fault::Fault;
 pub use laws::{
     checks_by_answers, diagnostics_by_answers, diagnostics_in_order, each_diagnostic, each_fault,
     each_stands, one_order, said_of_one,
 };
+pub use queries::checked::{CheckPart, ChecksQuery};
+pub use queries::diagnostics::{DiagnosticsPart, DiagnosticsQuery};
+pub use queries::gathered::{Known, LinkedFile, States, Waiting};
+pub use queries::keys::CheckKeys;
 pub use rule_laws::checks_in_rules;
 pub use std::alloc::AllocError as Memory;
-pub use surroundings::{FileState, Imported};

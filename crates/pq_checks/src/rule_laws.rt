@@ -9,5 +9,8 @@ use pq_rules::Rules;
 /// In every rule set that embeds the queries of checks and of diagnostics beside those of a schema,
 /// at all sources, the answers of these keys are exactly what the sources say of the file's errors.
 pub fn checks_in_rules<R: Rules>(_rules: &R)
+    // In every rule set that embeds the two queries beside those of a schema, at all sources, the
+    // answers of these keys are exactly what the sources say of the file's errors, and of its
+    // diagnostics.
     ensures means { (files : Sources) (s : SchemaSum (over R.Key.cmp (R.machine _rules.now) files) files) (c : ChecksSum (over R.Key.cmp (R.machine _rules.now) files) files s) → ChecksMeans (over R.Key.cmp (R.machine _rules.now) files) files s c }
 {}

@@ -38,6 +38,7 @@ impl<R: Rules> Model for Claims<R> {
 impl<R: Rules> Claims<R> {
     /// No claims. Keys are copied by `rules`. It takes no memory.
     pub fn new(alloc: Global, rules: R) -> Self
+        // No run holds a key, and none waits.
         ensures empty { (r : ℕ) → hold_of result r ≡ record { keys = []; wait = None } }
     {
         Claims {
@@ -50,6 +51,7 @@ impl<R: Rules> Claims<R> {
 
     /// Whether a run holds `key`. It takes no memory.
     pub fn is_held(&self, key: &R::Key) -> bool
+        // True exactly where a run holds the key.
         ensures held { IsTrue result ↔ ((r : ℕ) × Holds self.now r key.now) }
     {
         holder_of(&self.rules, &self.holders, key).is_some()
@@ -57,6 +59,7 @@ impl<R: Rules> Claims<R> {
 
     /// The run that holds `key`, if a run holds it. It takes no memory.
     pub fn holder(&self, key: &R::Key) -> Option<RunId>
+        // `some`, `none`: The run that holds the key; no answer exactly where no run does.
         ensures some { IfSome result (λ r. Holds self.now r key.now) }
         ensures none { IfNone result ((r : ℕ) → Holds self.now r key.now → ⊥) }
     {
@@ -78,6 +81,11 @@ impl<R: Rules> Claims<R> {
         run: RunId,
         key: &R::Key,
     ) -> Result<Claim<R::Key>, Memory>
+        // `Claimed`: `Got`: no run held the key, and the run holds it as the last of its keys.
+        // `HeldBy`: another run holds it, and the run waits for it. `Ring`: the ring that the wait
+        // would close, from its least key on, with the claimed key and the key that the run claimed
+        // last on it; nothing is claimed. In these cases the earlier wait of the run has ended and
+        // other runs are as they were. After `Memory` all is as it was.
         ensures claimed { Claimed R.Key.cmp run key.now result self.old self.new }
     {
         if self.next == u64::MAX {
@@ -98,6 +106,8 @@ impl<R: Rules> Claims<R> {
 
     /// Ends the wait of `run`, if it waits for a key. It takes no memory.
     pub fn end_wait(&mut self, run: RunId)
+        // The run waits for no key. Its keys, and what other runs hold and wait for, are as they
+        // were.
         ensures ended { IsSet self.old self.new run (record { keys = (hold_of self.old run).keys; wait = None }) }
     {
         drop_wait(&mut self.runs, run.number());
@@ -106,6 +116,8 @@ impl<R: Rules> Claims<R> {
     /// Releases the key that `run` claimed last, and returns it. All waits for it end. The wait of
     /// `run` itself stays. It takes no memory.
     pub fn release(&mut self, run: RunId) -> Option<R::Key>
+        // `Releases`: The run releases the key that it claimed last, and all waits for that key
+        // end. All other keys and waits stay. Without a key of the run nothing changes.
         ensures released { Releases run result self.old self.new }
     {
         match pop_key(&mut self.runs, run.number()) {
@@ -120,6 +132,8 @@ impl<R: Rules> Claims<R> {
     /// Releases all keys of `run`, and ends its wait and all waits for these keys. It takes no
     /// memory.
     pub fn release_all(&mut self, run: RunId)
+        // `ReleasesAll`: The run holds no key and waits for none. All waits for its keys end. All
+        // other keys and waits stay.
         ensures released { ReleasesAll run self.old self.new }
     {
         let count = keys_in(&self.runs, run.number()).len();

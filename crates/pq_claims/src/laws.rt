@@ -9,6 +9,8 @@ use pq_rules::Rules;
 /// Between any two calls a key has one holder at most, which holds it once. A run that waits for a
 /// key waits for another run, which holds it. Waits form no ring.
 pub fn claims_are_sound<R: Rules>(claims: &Claims<R>)
+    // `AreSound`: A key has one holder at most, which holds it once. A run that waits waits for
+    // another run, which holds the key. Waits form no ring.
     ensures sound { AreSound claims.now }
 {
     let _next = claims.next;
@@ -16,6 +18,7 @@ pub fn claims_are_sound<R: Rules>(claims: &Claims<R>)
 
 /// Waits lead from each run to a run that waits for no key.
 pub fn waits_end<R: Rules>(claims: &Claims<R>)
+    // Waits lead from each run to a run that waits for no key.
     ensures ends { (r : ℕ) → (s : ℕ) × Leads (WaitsFor claims.now) r s × ((hold_of claims.now s).wait ≡ None) }
 {
     let _next = claims.next;

@@ -22,6 +22,7 @@ impl RunId {
 
     /// The run of this number, whether or not it exists.
     pub fn new(number: u64) -> RunId
+        // Contracts see the number.
         ensures { result ≡ number }
     {
         RunId { number }
@@ -29,6 +30,7 @@ impl RunId {
 
     /// The number.
     pub fn number(self) -> u64
+        // Contracts see the number.
         ensures { result ≡ self }
     {
         self.number

@@ -2,12 +2,12 @@
 use Rattle.std.proofs.Common.{◌≡◌, ◌≢◌, ℕ, zero, suc, ◌+◌, ◌-◌, ◌<◌, ◌≤◌, ◌^◌, ◌⊎◌, List, [], ◌∷◌, ◌++◌, length, drop, slice_get, slice_set, get_or, Some, None, refl, sym, ◌∙◌, ap, subst, inl, inr, arith, length-drop}
 use Rattle.pq_core.specs.Lanes.{ReadyView}
 use Rattle.pq_core.specs.Accounts.{AccountView, next_of, IsStage, with_stage, with_request, first_stage, Collects, MaySee, seen_below, Sees}
-use Rattle.pq_core.specs.declared.request.Request.{Request}
-use Rattle.pq_core.specs.declared.request.Want.{Want}
-use Rattle.pq_core.specs.declared.request.Want.TheVariants.{Demand, Fixed}
+use Rattle.pq_core.specs.declared.values.request.Request.{Request}
+use Rattle.pq_core.specs.declared.values.request.Want.{Want}
+use Rattle.pq_core.specs.declared.values.request.Want.TheVariants.{Demand, Fixed}
 use Rattle.pq_core.specs.aux.Accounts.{noted, made_one, made_count, AccountKept}
-use Rattle.pq_core.specs.declared.account.Stage.{Stage}
-use Rattle.pq_core.specs.declared.account.Stage.TheVariants.{Waiting, Running, Made, Collected}
+use Rattle.pq_core.specs.declared.store.account.Stage.{Stage}
+use Rattle.pq_core.specs.declared.store.account.Stage.TheVariants.{Waiting, Running, Made, Collected}
 use Rattle.pq_rules.proofs.ListLemmas.{get_last}
 use Rattle.pq_core.proofs.Lists.{some_one, get_set, get_append, get_longer, get_within, set_same, set_other, set_long, append_long}
 use Rattle.pq_core.proofs.Writes.{nothing_there, one_entry}

@@ -10,12 +10,12 @@ use Rattle.pq_core.specs.Lanes.{ReadyView}
 use Rattle.pq_core.specs.Accounts.{AccountView, no_requests, IsStage, with_stage, with_request, first_stage}
 use Rattle.pq_core.specs.Moves.{new_entry, first_place, with_new}
 use Rattle.pq_core.specs.Kept.{PlaceKept, ClientKept}
-use Rattle.pq_core.specs.declared.request.Request.{Request}
-use Rattle.pq_core.specs.declared.request.Want.{Want}
-use Rattle.pq_core.specs.declared.request.Want.TheVariants.{Demand, Fixed}
-use Rattle.pq_core.specs.declared.account.Begun.{Begun}
-use Rattle.pq_core.specs.declared.account.Stage.{Stage}
-use Rattle.pq_core.specs.declared.account.Stage.TheVariants.{Waiting, Running, Made, Collected}
+use Rattle.pq_core.specs.declared.values.request.Request.{Request}
+use Rattle.pq_core.specs.declared.values.request.Want.{Want}
+use Rattle.pq_core.specs.declared.values.request.Want.TheVariants.{Demand, Fixed}
+use Rattle.pq_core.specs.declared.store.account.Begun.{Begun}
+use Rattle.pq_core.specs.declared.store.account.Stage.{Stage}
+use Rattle.pq_core.specs.declared.store.account.Stage.TheVariants.{Waiting, Running, Made, Collected}
 use Rattle.pq_core.specs.aux.Accounts.{StageStands, StageAt, AccountStands}
 use Rattle.pq_rules.proofs.ListLemmas.{get_last}
 use Rattle.pq_core.proofs.Lists.{get_set, get_append, get_longer, get_within, get_there, set_same, set_other, set_long, append_long, same_or_other}

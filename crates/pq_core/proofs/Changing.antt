@@ -2,7 +2,7 @@
 use Rattle.std.proofs.Common.{◌≡◌, ◌≢◌, ℕ, ◌+◌, ◌<◌, ◌≤◌, ◌==◌, if◌then◌else◌, Bool, true, false, List, Option, Some, None, IfNone, refl, sym, ◌∙◌, ap, arith}
 use Rattle.std.specs.Prelude.{OnErr, OnOk, is_err, Ok, Err, Result, [], ◌∷◌}
 use Rattle.std.proofs.lemmas.Bool.{eq-eqb, eqb-true}
-use Rattle.pq_core.specs.declared.rising.Place.{Place}
+use Rattle.pq_core.specs.declared.store.rising.Place.{Place}
 use Rattle.pq_core.specs.aux.Rising.{Slots, found, IsAbove, SameFound}
 use Rattle.pq_core.specs.aux.Changes.{IsSetAt, IsSameMap}
 

@@ -4,15 +4,15 @@ use Rattle.std.proofs.lemmas.Bool.{eq-eqb, eqb-true}
 use Rattle.std.specs.declared.alloc.AllocError.{AllocError}
 use Rattle.std.specs.declared.cmp.Ordering.{Ordering}
 use Rattle.pq_rules.specs.Relations.{In}
-use Rattle.pq_memo.specs.declared.frame.Frame.{Frame}
+use Rattle.pq_memo.specs.declared.stepping.frame.Frame.{Frame}
 use Rattle.pq_memo.specs.Frames.{frame_keys}
 use Rattle.pq_memo.proofs.Stacked.{keys_append}
 use Rattle.pq_claims.specs.Claims.{Hold, hold_of, Holds, IsSet, IsFreed, Claimed, Releases, ReleasesAll}
 use Rattle.pq_claims.specs.declared.claim.Claim.{Claim}
 use Rattle.pq_claims.specs.declared.claim.Claim.TheVariants.{Got, HeldBy, Ring}
-use Rattle.pq_core.specs.declared.rising.Place.{Place}
-use Rattle.pq_core.specs.declared.frames.Top.{Top}
-use Rattle.pq_core.specs.declared.frames.Top.TheVariants.{Empty, At, Away}
+use Rattle.pq_core.specs.declared.store.rising.Place.{Place}
+use Rattle.pq_core.specs.declared.runs.frames.Top.{Top}
+use Rattle.pq_core.specs.declared.runs.frames.Top.TheVariants.{Empty, At, Away}
 use Rattle.pq_core.specs.aux.Rising.{found}
 use Rattle.pq_core.specs.aux.Runs.{RunView, AreClaimed, HoldsBelow, IsHeldUp, IsLowered, OthersHold, claimed_keys, run_keys}
 use Rattle.pq_core.proofs.Lists.{none_some}

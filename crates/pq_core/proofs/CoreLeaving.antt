@@ -24,8 +24,8 @@ use Rattle.pq_core.specs.Cores.{core_of, StandsFor}
 use Rattle.pq_core.specs.aux.Rising.{Slots, found, IsAbove}
 use Rattle.pq_core.specs.aux.Places.{LaneStands, LanesStand}
 use Rattle.pq_core.specs.aux.Resting.{HasReadyLane}
-use Rattle.pq_core.specs.declared.moves.Released.{Released}
-use Rattle.pq_core.specs.declared.moves.Released.TheVariants.{Put as ReleasedPut, Full as ReleasedFull, Gone as ReleasedGone, Nothing as ReleasedNothing}
+use Rattle.pq_core.specs.declared.values.moves.Released.{Released}
+use Rattle.pq_core.specs.declared.values.moves.Released.TheVariants.{Put as ReleasedPut, Full as ReleasedFull, Gone as ReleasedGone, Nothing as ReleasedNothing}
 
 not_ready_closed : {K V M : Type 0} (place : Place K V M) (reply : ReplyView K V M) → place_closed place ≡ Ready reply → ⊥
 not_ready_closed Waiting reply e = cc

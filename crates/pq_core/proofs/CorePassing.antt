@@ -22,8 +22,8 @@ use Rattle.pq_core.specs.Stores.{StoreView, held, fields_of, IsMadeIn, NoneMade,
 use Rattle.pq_core.specs.Stores.{StandsFor as StoreStandsFor}
 use Rattle.pq_core.specs.Cores.{CoreView, core_of, StandsFor, IsWhole}
 use Rattle.pq_core.specs.Starts.{Log, IsCountedFor}
-use Rattle.pq_core.specs.declared.account.Stage.TheVariants.{Made}
-use Rattle.pq_core.specs.declared.rising.Place.{Place as Seat}
+use Rattle.pq_core.specs.declared.store.account.Stage.TheVariants.{Made}
+use Rattle.pq_core.specs.declared.store.rising.Place.{Place as Seat}
 use Rattle.pq_core.specs.aux.Rising.{Slots, found, IsAbove}
 use Rattle.pq_core.specs.aux.Changes.{IsSetAt}
 use Rattle.pq_core.specs.aux.Accounts.{AccountStands}

@@ -4,7 +4,7 @@ use Rattle.pq_core.proofs.Lists.{some_one}
 use Rattle.pq_core.proofs.Slots.{found_at}
 use Rattle.pq_core.proofs.CoreLeaving.{not_both}
 use Rattle.pq_core.specs.Lanes.{Tray, HasNext}
-use Rattle.pq_core.specs.declared.rising.Place.{Place as Slot}
+use Rattle.pq_core.specs.declared.store.rising.Place.{Place as Slot}
 use Rattle.pq_core.specs.aux.Rising.{Slots, Rises}
 use Rattle.pq_core.specs.aux.Resting.{HasReadyLane, LetsNext}
 

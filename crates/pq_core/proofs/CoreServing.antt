@@ -22,20 +22,20 @@ use Rattle.pq_core.specs.Stores.{StoreView, NoneMade, Makes, Goes}
 use Rattle.pq_core.specs.Stores.{StandsFor as StoreStandsFor}
 use Rattle.pq_core.specs.Cores.{core_of, StandsFor}
 use Rattle.pq_core.specs.aux.Rising.{Slots, found, IsAbove, SameFound}
-use Rattle.pq_core.specs.declared.label.Label.{Label}
-use Rattle.pq_core.specs.declared.request.Request.{Request}
-use Rattle.pq_core.specs.declared.outcome.Outcome.TheVariants.{Answered, Cancelled, Starved}
-use Rattle.pq_core.specs.declared.moves.Move.{Move}
-use Rattle.pq_core.specs.declared.moves.Move.TheVariants.{Carry, Blocked, Stepped, Answered as MoveAnswered, Stopped}
-use Rattle.pq_core.specs.declared.fault.OpenFault.{OpenFault}
-use Rattle.pq_core.specs.declared.fault.OpenFault.TheVariants.{TooManyClients, Memory as OpenMemory}
-use Rattle.pq_core.specs.declared.fault.OpenRefused.{OpenRefused}
-use Rattle.pq_core.specs.declared.fault.AcceptRefused.{AcceptRefused}
-use Rattle.pq_core.specs.declared.fault.EditRefused.{EditRefused}
-use Rattle.pq_core.specs.declared.fault.LookFault.{LookFault}
-use Rattle.pq_core.specs.declared.fault.LookFault.TheVariants.{NoRun, Memory as LookMemory}
-use Rattle.pq_core.specs.declared.fault.GiveRefused.{GiveRefused}
-use Rattle.pq_core.specs.declared.fault.WithdrawFault.{WithdrawFault}
+use Rattle.pq_core.specs.declared.values.label.Label.{Label}
+use Rattle.pq_core.specs.declared.values.request.Request.{Request}
+use Rattle.pq_core.specs.declared.values.outcome.Outcome.TheVariants.{Answered, Cancelled, Starved}
+use Rattle.pq_core.specs.declared.values.moves.Move.{Move}
+use Rattle.pq_core.specs.declared.values.moves.Move.TheVariants.{Carry, Blocked, Stepped, Answered as MoveAnswered, Stopped}
+use Rattle.pq_core.specs.declared.values.fault.OpenFault.{OpenFault}
+use Rattle.pq_core.specs.declared.values.fault.OpenFault.TheVariants.{TooManyClients, Memory as OpenMemory}
+use Rattle.pq_core.specs.declared.values.fault.OpenRefused.{OpenRefused}
+use Rattle.pq_core.specs.declared.values.fault.AcceptRefused.{AcceptRefused}
+use Rattle.pq_core.specs.declared.values.fault.EditRefused.{EditRefused}
+use Rattle.pq_core.specs.declared.values.fault.LookFault.{LookFault}
+use Rattle.pq_core.specs.declared.values.fault.LookFault.TheVariants.{NoRun, Memory as LookMemory}
+use Rattle.pq_core.specs.declared.values.fault.GiveRefused.{GiveRefused}
+use Rattle.pq_core.specs.declared.values.fault.WithdrawFault.{WithdrawFault}
 
 not_ready_waiting : {K V M : Type 0} (place : Place K V M) (reply : ReplyView K V M) → place ≡ Waiting → place ≡ Ready reply → ⊥
 not_ready_waiting place reply e f = cc

@@ -10,13 +10,13 @@ use Rattle.pq_rules.specs.declared.rules.Rules as rules
 use Rattle.pq_inputs.specs.contracts.inputs.Inputs as inputs
 use Rattle.pq_inputs.proofs.files.Files.TheSendSync as files
 use Rattle.pq_inputs.proofs.last_changed.LastChanged.TheSendSync as last_changed
-use Rattle.pq_memo.proofs.memos.Memos.TheSendSync as memos
+use Rattle.pq_memo.proofs.table.memos.Memos.TheSendSync as memos
 use Rattle.pq_claims.proofs.claims.Claims.TheSendSync as claims
-use Rattle.pq_core.specs.declared.stamp.Stamp as stamp
-use Rattle.pq_core.specs.contracts.store.Store as store
-use Rattle.pq_core.proofs.rising.Rising.TheSendSync as rising
-use Rattle.pq_core.proofs.account.Account.TheSendSync as account
-use Rattle.pq_core.proofs.run.Run.TheSendSync as run
+use Rattle.pq_core.specs.declared.values.stamp.Stamp as stamp
+use Rattle.pq_core.specs.contracts.store.store.Store as store
+use Rattle.pq_core.proofs.store.rising.Rising.TheSendSync as rising
+use Rattle.pq_core.proofs.store.account.Account.TheSendSync as account
+use Rattle.pq_core.proofs.runs.run.Run.TheSendSync as run
 
 inputs_send : IsSend inputs.the_row
 inputs_send = search (files.the_send, last_changed.the_send, sendable, crosses) depth 40

@@ -18,13 +18,13 @@ use Rattle.pq_core.specs.Stores.{Held, StandsOf, StoreView}
 use Rattle.pq_core.specs.aux.Rising.{found}
 use Rattle.pq_core.specs.aux.Runs.{RunView, RunsKept, FramesKept, out_at}
 use Rattle.pq_core.specs.aux.RunEnds.{EndsBy, FitsEnd, IsLateFor, IsReplyDue, MayEnd, log_ended_in, reply_by}
-use Rattle.pq_core.specs.declared.frames.Top.{Top}
-use Rattle.pq_core.specs.declared.rising.Place.{Place}
-use Rattle.pq_core.specs.declared.run_end.Ending.{Ending}
-use Rattle.pq_core.specs.declared.run_end.Ending.TheVariants.{Stopped, Answered, Starved, Withdrawn}
-use Rattle.pq_core.specs.declared.outcome.Outcome.TheVariants.{Cancelled, Starved as OutcomeStarved, Withdrawn as OutcomeWithdrawn}
-use Rattle.pq_core.specs.declared.request.Want.{Want}
-use Rattle.pq_core.specs.declared.request.Want.TheVariants.{Demand, Fixed}
+use Rattle.pq_core.specs.declared.runs.frames.Top.{Top}
+use Rattle.pq_core.specs.declared.store.rising.Place.{Place}
+use Rattle.pq_core.specs.declared.steps.run_end.Ending.{Ending}
+use Rattle.pq_core.specs.declared.steps.run_end.Ending.TheVariants.{Stopped, Answered, Starved, Withdrawn}
+use Rattle.pq_core.specs.declared.values.outcome.Outcome.TheVariants.{Cancelled, Starved as OutcomeStarved, Withdrawn as OutcomeWithdrawn}
+use Rattle.pq_core.specs.declared.values.request.Want.{Want}
+use Rattle.pq_core.specs.declared.values.request.Want.TheVariants.{Demand, Fixed}
 use Rattle.pq_core.proofs.Keeping.{kept_end, kept_starves, runs_placed}
 use Rattle.pq_core.proofs.Lists.{some_one}
 use Rattle.pq_core.proofs.Renewed.{renewed_same}

@@ -12,7 +12,7 @@ use Rattle.pq_core.specs.Ledger.{Out, Place, Waiting, Running, Ready, Put, Dropp
 use Rattle.pq_core.specs.Moves.{RunAt, Runs, open_count, ended, ended_entry, place_ended, reply_at, with_out}
 use Rattle.pq_core.specs.Kept.{Kept}
 use Rattle.pq_core.specs.aux.Stands.{RunSeen, Fields, EntryStands, IsOwedNothing, ClientStands, HasRun, Stands}
-use Rattle.pq_core.specs.declared.outcome.Outcome.{Outcome}
+use Rattle.pq_core.specs.declared.values.outcome.Outcome.{Outcome}
 
 abbrev pub ready_place : {K V M : Type 0} → ReplyView K V M → Place K V M
 ready_place reply = Ready reply

@@ -6,9 +6,9 @@ use Rattle.pq_rules.specs.Turns.{Machine}
 use Rattle.pq_rules.specs.Relations.{In}
 use Rattle.pq_rules.proofs.ListLemmas.{distinct_middle}
 use Rattle.pq_rules.proofs.Stack.{distinct_front, distinct_push}
-use Rattle.pq_memo.specs.declared.frame.Frame.{Frame}
-use Rattle.pq_memo.specs.declared.frame.Stage.{Stage}
-use Rattle.pq_memo.specs.declared.frame.Stage.TheVariants.{Walking, Waiting}
+use Rattle.pq_memo.specs.declared.stepping.frame.Frame.{Frame}
+use Rattle.pq_memo.specs.declared.stepping.frame.Stage.{Stage}
+use Rattle.pq_memo.specs.declared.stepping.frame.Stage.TheVariants.{Walking, Waiting}
 use Rattle.pq_memo.specs.Sound.{Memo}
 use Rattle.pq_memo.specs.Look.{IsUpToDate}
 use Rattle.pq_memo.specs.Table.{HasIn}
@@ -19,8 +19,8 @@ use Rattle.pq_memo.proofs.Demanding.{differ}
 use Rattle.pq_memo.proofs.DistinctRing.{distinct_of}
 use Rattle.pq_memo.proofs.Stacked.{keys_append, awaits_frame}
 use Rattle.pq_memo.proofs.TableCalls.{zero_or}
-use Rattle.pq_core.specs.declared.frames.Top.{Top}
-use Rattle.pq_core.specs.declared.frames.Top.TheVariants.{Empty, At, Away}
+use Rattle.pq_core.specs.declared.runs.frames.Top.{Top}
+use Rattle.pq_core.specs.declared.runs.frames.Top.TheVariants.{Empty, At, Away}
 use Rattle.pq_core.specs.aux.Runs.{CanGoOn, WaitsFor, first_key, WaitsUp, KeptBelow, FramesKept, IsLowered, out_at}
 
 not_empty : {K : Type 0} (front : List K) (k : K) → front ++ k ∷ [] ≢ []

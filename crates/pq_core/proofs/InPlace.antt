@@ -1,7 +1,7 @@
 -- A value of a map from numbers is written in its place.
 use Rattle.std.proofs.Common.{◌≡◌, ℕ, ◌<◌, ◌==◌, if◌then◌else◌, List, length, slice_get, slice_set, get_or, Option, Some, None, is_some, refl, sym, ◌∙◌, ap, arith}
 use Rattle.pq_core.specs.Moves.{one_if}
-use Rattle.pq_core.specs.declared.rising.Place.{Place}
+use Rattle.pq_core.specs.declared.store.rising.Place.{Place}
 use Rattle.pq_core.specs.aux.Rising.{Slots, found, IsAbove, IsKept}
 use Rattle.pq_core.specs.aux.Changes.{IsSetAt, IsSameMap}
 use Rattle.pq_core.proofs.Slots.{Written, written, by_number}

@@ -11,7 +11,7 @@ use Rattle.pq_core.proofs.Queued.{in_there, in_longer, once_filter, once_passed}
 use Rattle.pq_core.proofs.Turned.{no_items, last_there, filter_after, seats, seats_last, seats_pushed}
 use Rattle.pq_core.specs.aux.Queue.{IsOnce}
 use Rattle.pq_core.specs.aux.Turns.{Pops, Pushes, NoneOf, seats_in, seats_of, clients, AreApart, IsTurnOf, IsSettledAt, HasRoomAt, IsKept}
-use Rattle.pq_core.specs.declared.queue.ClientTurn.{ClientTurn}
+use Rattle.pq_core.specs.declared.store.queue.ClientTurn.{ClientTurn}
 
 -- ---- lists
 

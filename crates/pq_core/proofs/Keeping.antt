@@ -11,25 +11,25 @@ use Rattle.pq_core.specs.Ledger.{Out, Place, Waiting, Running, Ready, Put, Dropp
 use Rattle.pq_core.specs.RightReply.{IsTrueOutcome, IsRightFor}
 use Rattle.pq_core.specs.Moves.{Opens, Accepts, Edits, Starts, LooksFor, Gives, Starves, Withdraws, Releases, Closes, TakesOut, RunAt, Runs, IsOvertaken, new_entry, first_place, changed, edited, reply_at, ended, with_out, out_of, place_ended, is_turn, turned, TurnsEntry, TurnsClient, Turns, TurnsIf, IsOwed, WithdrawsEntry, WithdrawsEach}
 use Rattle.pq_core.specs.Kept.{IsDemand, PlaceKept, EntryKept, ClientKept, Kept}
-use Rattle.pq_core.specs.declared.label.Label.{Label}
-use Rattle.pq_core.specs.declared.request.Request.{Request}
+use Rattle.pq_core.specs.declared.values.label.Label.{Label}
+use Rattle.pq_core.specs.declared.values.request.Request.{Request}
 use Rattle.pq_core.specs.Changes.{ChangeView}
 use Rattle.pq_core.specs.Works.{DoneView, WorkView}
-use Rattle.pq_core.specs.declared.request.Want.{Want}
-use Rattle.pq_core.specs.declared.request.Want.TheVariants.{Demand, Fixed}
-use Rattle.pq_core.specs.declared.outcome.Outcome.{Outcome}
-use Rattle.pq_core.specs.declared.outcome.Outcome.TheVariants.{Answered, Plain, Cancelled, Starved, Withdrawn}
-use Rattle.pq_core.specs.declared.moves.Move.{Move}
-use Rattle.pq_core.specs.declared.moves.Move.TheVariants.{Carry, Blocked, Stepped as MoveStepped, Answered as MoveAnswered, Stopped as MoveStopped}
-use Rattle.pq_core.specs.declared.moves.Released.{Released}
-use Rattle.pq_core.specs.declared.moves.Released.TheVariants.{Put as ReleasedPut, Full as ReleasedFull, Gone as ReleasedGone, Nothing as ReleasedNothing}
-use Rattle.pq_core.specs.declared.fault.LookFault.{LookFault}
-use Rattle.pq_core.specs.declared.fault.LookFault.TheVariants.{NoRun, Memory as LookMemory}
-use Rattle.pq_core.specs.declared.fault.GiveRefused.{GiveRefused}
-use Rattle.pq_core.specs.declared.fault.OpenRefused.{OpenRefused}
-use Rattle.pq_core.specs.declared.fault.AcceptRefused.{AcceptRefused}
-use Rattle.pq_core.specs.declared.fault.EditRefused.{EditRefused}
-use Rattle.pq_core.specs.declared.fault.WithdrawFault.{WithdrawFault}
+use Rattle.pq_core.specs.declared.values.request.Want.{Want}
+use Rattle.pq_core.specs.declared.values.request.Want.TheVariants.{Demand, Fixed}
+use Rattle.pq_core.specs.declared.values.outcome.Outcome.{Outcome}
+use Rattle.pq_core.specs.declared.values.outcome.Outcome.TheVariants.{Answered, Plain, Cancelled, Starved, Withdrawn}
+use Rattle.pq_core.specs.declared.values.moves.Move.{Move}
+use Rattle.pq_core.specs.declared.values.moves.Move.TheVariants.{Carry, Blocked, Stepped as MoveStepped, Answered as MoveAnswered, Stopped as MoveStopped}
+use Rattle.pq_core.specs.declared.values.moves.Released.{Released}
+use Rattle.pq_core.specs.declared.values.moves.Released.TheVariants.{Put as ReleasedPut, Full as ReleasedFull, Gone as ReleasedGone, Nothing as ReleasedNothing}
+use Rattle.pq_core.specs.declared.values.fault.LookFault.{LookFault}
+use Rattle.pq_core.specs.declared.values.fault.LookFault.TheVariants.{NoRun, Memory as LookMemory}
+use Rattle.pq_core.specs.declared.values.fault.GiveRefused.{GiveRefused}
+use Rattle.pq_core.specs.declared.values.fault.OpenRefused.{OpenRefused}
+use Rattle.pq_core.specs.declared.values.fault.AcceptRefused.{AcceptRefused}
+use Rattle.pq_core.specs.declared.values.fault.EditRefused.{EditRefused}
+use Rattle.pq_core.specs.declared.values.fault.WithdrawFault.{WithdrawFault}
 
 module _ {K V M O : Type 0} (means : M → Point → K → Answer K V → Type 0) (puts : O → List (ReplyView K V M)) where
   -- another client of an id

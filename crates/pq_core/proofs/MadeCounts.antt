@@ -7,11 +7,19 @@ use Rattle.pq_core.proofs.Slots.{found_above, above_more}
 use Rattle.pq_core.proofs.AccountMoves.{before_or_not, set_count}
 use Rattle.pq_core.specs.Lanes.{ReadyView}
 use Rattle.pq_core.specs.Accounts.{AccountView, Collects}
-use Rattle.pq_core.specs.declared.account.Stage.TheVariants.{Made, Collected}
-use Rattle.pq_core.specs.declared.rising.Place.{Place}
+use Rattle.pq_core.specs.declared.store.account.Stage.TheVariants.{Made, Collected}
+use Rattle.pq_core.specs.declared.store.rising.Place.{Place}
 use Rattle.pq_core.specs.aux.Rising.{found, IsAbove}
 use Rattle.pq_core.specs.aux.Accounts.{made_count, HasMade, AccountKept}
 use Rattle.pq_core.specs.aux.Passing.{made_of, made_below}
+
+-- whether a list has items, by the test of its length
+pub length_tells : (n k : ℕ) (empty : Bool) → empty ≡ eqb n 0 → n ≡ k → IsTrue (not empty) ↔ (0 < k)
+length_tells n k true e long = let none : n ≡ 0 = eqb-true n 0 (sym e) in (λ t. absurd (cc), λ h. absurd (omega arith))
+length_tells n k false e long = (λ t. some, λ h. refl)
+  where
+    some : 0 < k
+    some = elim (before_or_not 0 n) [ inl lt ↦ omega arith | inr le ↦ (let f = eq-eqb n 0 (omega arith) in absurd (cc)) ]
 
 module _ {K V M : Type 0} where
   -- whether an account has a reply that is made, by the length of its index
@@ -71,10 +79,10 @@ module _ {K V M : Type 0} where
             | inr le ↦ absurd (none_some account (sym (found_above c b (above_more clients c b le above)) ∙ here))
           ])
 
-  -- whether the account of a client has a reply that is made
-  pub account_tells : (items : List (Place (AccountView K V M))) (c : ℕ) (account : AccountView K V M) (some : Bool) → found items c ≡ Some account → IsTrue some ↔ HasMade account
-      → IsTrue some ↔ ((x : AccountView K V M) × (found items c ≡ Some x) × HasMade x)
-  account_tells items c account some here tells = (
+  -- whether the account of a client is such that `Has`, by a test of it
+  pub account_tells : (Has : AccountView K V M → Type 0) (items : List (Place (AccountView K V M))) (c : ℕ) (account : AccountView K V M) (some : Bool) → found items c ≡ Some account → IsTrue some ↔ Has account
+      → IsTrue some ↔ ((x : AccountView K V M) × (found items c ≡ Some x) × Has x)
+  account_tells Has items c account some here tells = (
     λ t. (account, here, tells.0 t),
-    λ h. tells.1 (subst (λ (x : AccountView K V M). HasMade x) (some_one h.0 account (sym h.1 ∙ here)) h.2),
+    λ h. tells.1 (subst Has (some_one h.0 account (sym h.1 ∙ here)) h.2),
   )

@@ -20,12 +20,12 @@ use Rattle.pq_core.specs.Accounts.{AccountView, no_requests, IsStage, with_stage
 use Rattle.pq_core.specs.Told.{Told, told_puts, IsReadyAt, NoneReadyAt}
 use Rattle.pq_core.specs.Moves.{Reaches}
 use Rattle.pq_core.specs.Stores.{StoreView, Held, held, fields_of, StandsOf, StandsFor, IsMadeIn, Makes, Goes}
-use Rattle.pq_core.specs.declared.request.Request.{Request}
-use Rattle.pq_core.specs.declared.request.Want.{Want}
-use Rattle.pq_core.specs.declared.request.Want.TheVariants.{Demand, Fixed}
-use Rattle.pq_core.specs.declared.account.Stage.{Stage}
-use Rattle.pq_core.specs.declared.account.Stage.TheVariants.{Waiting, Running, Made, Collected}
-use Rattle.pq_core.specs.declared.rising.Place.{Place as Slot}
+use Rattle.pq_core.specs.declared.values.request.Request.{Request}
+use Rattle.pq_core.specs.declared.values.request.Want.{Want}
+use Rattle.pq_core.specs.declared.values.request.Want.TheVariants.{Demand, Fixed}
+use Rattle.pq_core.specs.declared.store.account.Stage.{Stage}
+use Rattle.pq_core.specs.declared.store.account.Stage.TheVariants.{Waiting, Running, Made, Collected}
+use Rattle.pq_core.specs.declared.store.rising.Place.{Place as Slot}
 use Rattle.pq_core.specs.aux.Rising.{found}
 use Rattle.pq_core.specs.aux.Accounts.{StageStands, AccountStands}
 use Rattle.pq_core.specs.aux.Stands.{IsOwedNothing}

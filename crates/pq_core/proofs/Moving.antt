@@ -13,7 +13,7 @@ use Rattle.pq_core.specs.Ledger.{Out, Place, Waiting, Running, Ready, Put, Dropp
 use Rattle.pq_core.specs.Moves.{Waits, open_count, first_place, new_entry, with_new, changed, started_at}
 use Rattle.pq_core.specs.Kept.{Kept}
 use Rattle.pq_core.specs.aux.Stands.{RunSeen, Fields, EntryStands, ClientStands, Stands}
-use Rattle.pq_core.specs.declared.request.Request.{Request}
+use Rattle.pq_core.specs.declared.values.request.Request.{Request}
 
 -- `SameRuns f g` is that `f` and `g` have the same runs
 pub record SameRuns {K L : Type 0} (f g : Fields K L) : Type 0 where

@@ -14,7 +14,7 @@ use Rattle.pq_memo.specs.Table.{HasIn}
 use Rattle.pq_memo.specs.Frames.{Came}
 use Rattle.pq_memo.proofs.Reading.{now_files}
 use Rattle.pq_memo.specs.Look.{IsUpToDate}
-use Rattle.pq_core.specs.declared.frames.Pending.{Pending}
+use Rattle.pq_core.specs.declared.runs.frames.Pending.{Pending}
 use Rattle.pq_core.specs.Works.{DoneView, IsDue}
 use Rattle.pq_core.specs.aux.Runs.{CanTake}
 

@@ -7,7 +7,7 @@ use Rattle.pq_core.specs.Ledger.{Place, Ready, Put, Entry, Client, Ledger, opene
 use Rattle.pq_core.specs.Moves.{window}
 use Rattle.pq_core.specs.Lanes.{ReadyView, Tray, empty_tray, IsNextIn, after_next, tray_with, tray_after}
 use Rattle.pq_core.specs.Told.{IsReadyAt, NoneReadyAt}
-use Rattle.pq_core.specs.declared.rising.Place.{Place as Seat}
+use Rattle.pq_core.specs.declared.store.rising.Place.{Place as Seat}
 use Rattle.pq_core.specs.aux.Rising.{found}
 use Rattle.pq_core.specs.aux.Places.{LaneStands, LanesStand}
 

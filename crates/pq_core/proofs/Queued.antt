@@ -11,13 +11,13 @@ use Rattle.pq_core.proofs.AccountMoves.{one_stage, stage_within, was_at, added_a
 use Rattle.pq_core.proofs.Changing.{if_at, if_other}
 use Rattle.pq_core.specs.Lanes.{ReadyView}
 use Rattle.pq_core.specs.Accounts.{AccountView, no_requests, next_of, IsStage, with_stage, with_request, first_stage}
-use Rattle.pq_core.specs.declared.rising.Place.{Place}
-use Rattle.pq_core.specs.declared.request.Request.{Request}
-use Rattle.pq_core.specs.declared.request.Want.{Want}
-use Rattle.pq_core.specs.declared.request.Want.TheVariants.{Demand, Fixed}
-use Rattle.pq_core.specs.declared.account.Begun.{Begun}
-use Rattle.pq_core.specs.declared.account.Stage.{Stage}
-use Rattle.pq_core.specs.declared.account.Stage.TheVariants.{Waiting, Running, Made, Collected}
+use Rattle.pq_core.specs.declared.store.rising.Place.{Place}
+use Rattle.pq_core.specs.declared.values.request.Request.{Request}
+use Rattle.pq_core.specs.declared.values.request.Want.{Want}
+use Rattle.pq_core.specs.declared.values.request.Want.TheVariants.{Demand, Fixed}
+use Rattle.pq_core.specs.declared.store.account.Begun.{Begun}
+use Rattle.pq_core.specs.declared.store.account.Stage.{Stage}
+use Rattle.pq_core.specs.declared.store.account.Stage.TheVariants.{Waiting, Running, Made, Collected}
 use Rattle.pq_core.specs.Kept.{IsDemand}
 use Rattle.pq_core.specs.aux.Rising.{found}
 use Rattle.pq_core.specs.aux.Queue.{is_of_other, is_other_seat, WaitsIn, IsOnce, IsQueue}

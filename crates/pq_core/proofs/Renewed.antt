@@ -8,9 +8,9 @@ use Rattle.pq_rules.specs.declared.turn.Turn.TheVariants.{Ask}
 use Rattle.pq_rules.specs.Turns.{Machine}
 use Rattle.pq_rules.specs.Relations.{Each, In}
 use Rattle.pq_rules.proofs.Weight.{Exact}
-use Rattle.pq_memo.specs.declared.frame.Frame.{Frame}
-use Rattle.pq_memo.specs.declared.frame.Stage.{Stage}
-use Rattle.pq_memo.specs.declared.frame.Stage.TheVariants.{Walking, Waiting}
+use Rattle.pq_memo.specs.declared.stepping.frame.Frame.{Frame}
+use Rattle.pq_memo.specs.declared.stepping.frame.Stage.{Stage}
+use Rattle.pq_memo.specs.declared.stepping.frame.Stage.TheVariants.{Walking, Waiting}
 use Rattle.pq_memo.specs.Sound.{Memo}
 use Rattle.pq_memo.specs.Look.{IsUpToDate, HasChanged, IsStill}
 use Rattle.pq_memo.specs.Table.{memo_at, HasIn, IsSameTable}
@@ -22,9 +22,9 @@ use Rattle.pq_memo.specs.aux.Demand.{Wrote, IsHandedOn}
 use Rattle.pq_memo.proofs.Demanding.{none_lost}
 use Rattle.pq_memo.proofs.PutAll.{decide_in}
 use Rattle.pq_memo.proofs.Wrote.{wrote_finished}
-use Rattle.pq_core.specs.declared.frames.Pending.{Pending}
-use Rattle.pq_core.specs.declared.frames.Top.{Top}
-use Rattle.pq_core.specs.declared.frames.Top.TheVariants.{Empty, At, Away}
+use Rattle.pq_core.specs.declared.runs.frames.Pending.{Pending}
+use Rattle.pq_core.specs.declared.runs.frames.Top.{Top}
+use Rattle.pq_core.specs.declared.runs.frames.Top.TheVariants.{Empty, At, Away}
 use Rattle.pq_core.specs.aux.Runs.{RunView, IsRenewed, Renewed, CanGoOn, WaitsFor, first_key, WaitsUp, KeptBelow, CanTake, FramesKept, RunKept}
 
 -- a table that is the same

@@ -8,7 +8,7 @@ use Rattle.std.specs.declared.cmp.Ordering.{Ordering}
 use Rattle.pq_rules.specs.Turns.{Machine}
 use Rattle.pq_rules.specs.Relations.{In, IsRing}
 use Rattle.pq_rules.specs.aux.Lists.{in_append, in_append_left, in_append_right}
-use Rattle.pq_memo.specs.declared.frame.Frame.{Frame}
+use Rattle.pq_memo.specs.declared.stepping.frame.Frame.{Frame}
 use Rattle.pq_memo.specs.Sound.{Memo}
 use Rattle.pq_memo.specs.Look.{IsUpToDate}
 use Rattle.pq_memo.specs.Table.{HasIn}
@@ -16,9 +16,9 @@ use Rattle.pq_memo.specs.aux.Demand.{Wrote}
 use Rattle.pq_memo.specs.Frames.{frame_keys}
 use Rattle.pq_memo.specs.Steps.{IsWalking}
 use Rattle.pq_claims.specs.Claims.{AreSound, ComesNext, Differ, Hold, Holds, IsLast, Precedes, awaited, hold_of}
-use Rattle.pq_core.specs.declared.rising.Place.{Place}
-use Rattle.pq_core.specs.declared.frames.Pending.{Pending}
-use Rattle.pq_core.specs.declared.frames.Top.TheVariants.{At, Away}
+use Rattle.pq_core.specs.declared.store.rising.Place.{Place}
+use Rattle.pq_core.specs.declared.runs.frames.Pending.{Pending}
+use Rattle.pq_core.specs.declared.runs.frames.Top.TheVariants.{At, Away}
 use Rattle.pq_core.specs.aux.Rising.{found}
 use Rattle.pq_core.specs.aux.Runs.{AreClaimed, RunView, claimed_keys, run_keys}
 use Rattle.pq_core.specs.aux.Rings.{IsCut, KeyLeaves}

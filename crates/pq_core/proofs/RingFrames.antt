@@ -4,7 +4,7 @@ use Rattle.std.specs.declared.cmp.Ordering.{Ordering}
 use Rattle.pq_inputs.specs.Sources.{Sources}
 use Rattle.pq_rules.specs.Turns.{Machine}
 use Rattle.pq_rules.specs.Relations.{Each}
-use Rattle.pq_memo.specs.declared.frame.Frame.{Frame}
+use Rattle.pq_memo.specs.declared.stepping.frame.Frame.{Frame}
 use Rattle.pq_memo.specs.Sound.{Memo}
 use Rattle.pq_memo.specs.Table.{HasIn}
 use Rattle.pq_memo.specs.Writes.{ring_keys}

@@ -12,7 +12,7 @@ use Rattle.pq_rules.specs.Turns.{Machine}
 use Rattle.pq_rules.specs.Relations.{In}
 use Rattle.pq_rules.specs.aux.Lists.{in_append, in_append_left}
 use Rattle.pq_rules.proofs.Weight.{Exact}
-use Rattle.pq_memo.specs.declared.frame.Frame.{Frame}
+use Rattle.pq_memo.specs.declared.stepping.frame.Frame.{Frame}
 use Rattle.pq_memo.specs.Sound.{Memo}
 use Rattle.pq_memo.specs.Look.{IsUpToDate}
 use Rattle.pq_memo.specs.Table.{HasIn}
@@ -20,9 +20,9 @@ use Rattle.pq_memo.specs.Frames.{frame_keys}
 use Rattle.pq_memo.specs.aux.Demand.{Wrote}
 use Rattle.pq_memo.proofs.PutAll.{decide_in}
 use Rattle.pq_claims.specs.Claims.{Hold, hold_of, Holds, IsSet, WaitsFor, AreSound}
-use Rattle.pq_core.specs.declared.rising.Place.{Place}
-use Rattle.pq_core.specs.declared.frames.Top.{Top}
-use Rattle.pq_core.specs.declared.frames.Top.TheVariants.{Empty, At, Away}
+use Rattle.pq_core.specs.declared.store.rising.Place.{Place}
+use Rattle.pq_core.specs.declared.runs.frames.Top.{Top}
+use Rattle.pq_core.specs.declared.runs.frames.Top.TheVariants.{Empty, At, Away}
 use Rattle.pq_core.specs.Stores.{run_seen}
 use Rattle.pq_core.specs.aux.Rising.{found}
 use Rattle.pq_core.specs.aux.Runs.{RunView, RunKept, RunsKept, AreClaimed, FramesKept, HoldsBelow, IsLowered, IsSameRun, OthersHold, Renewed, TopAwaits, WaitStands, claimed_keys, out_at, run_keys}

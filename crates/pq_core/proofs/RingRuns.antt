@@ -9,16 +9,16 @@ use Rattle.pq_inputs.specs.Sources.{Table}
 use Rattle.pq_rules.specs.Turns.{Machine}
 use Rattle.pq_rules.specs.Relations.{In, Each}
 use Rattle.pq_rules.specs.aux.Lists.{in_append, in_append_left, in_append_right}
-use Rattle.pq_memo.specs.declared.frame.Frame.{Frame}
+use Rattle.pq_memo.specs.declared.stepping.frame.Frame.{Frame}
 use Rattle.pq_memo.specs.Sound.{Memo}
 use Rattle.pq_memo.specs.Look.{IsUpToDate}
 use Rattle.pq_memo.specs.Table.{HasIn}
 use Rattle.pq_memo.specs.Frames.{Awaits, IsRound, frame_keys}
 use Rattle.pq_memo.proofs.Stacked.{keys_append}
 use Rattle.pq_claims.specs.Claims.{Hold, hold_of, Holds, WaitsFor, AreSound, Differ, awaited}
-use Rattle.pq_core.specs.declared.rising.Place.{Place}
-use Rattle.pq_core.specs.declared.frames.Top.{Top}
-use Rattle.pq_core.specs.declared.frames.Top.TheVariants.{Empty, At, Away}
+use Rattle.pq_core.specs.declared.store.rising.Place.{Place}
+use Rattle.pq_core.specs.declared.runs.frames.Top.{Top}
+use Rattle.pq_core.specs.declared.runs.frames.Top.TheVariants.{Empty, At, Away}
 use Rattle.pq_core.specs.aux.Rising.{found}
 use Rattle.pq_core.specs.aux.Runs.{RunView, RunsKept, AreClaimed, ClosesRing, FramesKept, HoldsBelow, KeptBelow, TopAwaits, WaitsFor as FrameWaitsFor, WaitsUp, claimed_keys, run_keys, top_keys}
 use Rattle.pq_core.specs.aux.Rings.{HasFrame, IsFrameOf}

@@ -10,7 +10,7 @@ use Rattle.pq_inputs.specs.Sources.{Table}
 use Rattle.pq_rules.specs.Turns.{Machine}
 use Rattle.pq_rules.specs.Relations.{In, Each, Chain, IsRing}
 use Rattle.pq_rules.specs.aux.Lists.{in_append_right}
-use Rattle.pq_memo.specs.declared.frame.Frame.{Frame}
+use Rattle.pq_memo.specs.declared.stepping.frame.Frame.{Frame}
 use Rattle.pq_memo.specs.Sound.{Memo}
 use Rattle.pq_memo.specs.Table.{HasIn}
 use Rattle.pq_memo.specs.Frames.{Awaits, RoundOf, IsRound, frame_keys}

@@ -8,10 +8,10 @@ use Rattle.std.specs.declared.cmp.Ordering.{Ordering}
 use Rattle.pq_rules.specs.Turns.{Machine}
 use Rattle.pq_rules.specs.Relations.{In}
 use Rattle.pq_rules.specs.aux.Lists.{in_append, in_append_left, in_append_right}
-use Rattle.pq_memo.specs.declared.frame.Frame.{Frame}
-use Rattle.pq_memo.specs.declared.frame.Stage.{Stage}
-use Rattle.pq_memo.specs.declared.frame.Stage.TheVariants.{Walking, Waiting}
-use Rattle.pq_memo.specs.declared.look.Why.{Why}
+use Rattle.pq_memo.specs.declared.stepping.frame.Frame.{Frame}
+use Rattle.pq_memo.specs.declared.stepping.frame.Stage.{Stage}
+use Rattle.pq_memo.specs.declared.stepping.frame.Stage.TheVariants.{Walking, Waiting}
+use Rattle.pq_memo.specs.declared.table.look.Why.{Why}
 use Rattle.pq_memo.specs.Sound.{Memo}
 use Rattle.pq_memo.specs.Look.{IsUpToDate}
 use Rattle.pq_memo.specs.Table.{HasIn}
@@ -21,11 +21,11 @@ use Rattle.pq_memo.specs.aux.Demand.{Wrote}
 use Rattle.pq_claims.specs.Claims.{Hold}
 use Rattle.pq_core.specs.Ledger.{Out}
 use Rattle.pq_core.specs.Works.{WorkView}
-use Rattle.pq_core.specs.declared.frames.Pending.{Pending}
-use Rattle.pq_core.specs.declared.frames.Top.{Top}
-use Rattle.pq_core.specs.declared.frames.Top.TheVariants.{Empty, At, Away}
-use Rattle.pq_core.specs.declared.frames.Looked.{Looked}
-use Rattle.pq_core.specs.declared.frames.Looked.TheVariants.{Carry, Stepped, Blocked, Ring}
+use Rattle.pq_core.specs.declared.runs.frames.Pending.{Pending}
+use Rattle.pq_core.specs.declared.runs.frames.Top.{Top}
+use Rattle.pq_core.specs.declared.runs.frames.Top.TheVariants.{Empty, At, Away}
+use Rattle.pq_core.specs.declared.runs.frames.Looked.{Looked}
+use Rattle.pq_core.specs.declared.runs.frames.Looked.TheVariants.{Carry, Stepped, Blocked, Ring}
 use Rattle.pq_core.specs.aux.Runs.{Enters, IsLowered, out_at, top_keys}
 use Rattle.pq_core.specs.aux.Rings.{IsFrameOf}
 use Rattle.pq_core.specs.aux.Begun.{IsBegun, IsFirst, KeepsBegun, LooksFirst}

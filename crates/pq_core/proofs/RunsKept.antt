@@ -9,16 +9,16 @@ use Rattle.std.specs.declared.cmp.Ordering.{Ordering}
 use Rattle.pq_inputs.specs.Sources.{Table}
 use Rattle.pq_rules.specs.Turns.{Machine}
 use Rattle.pq_rules.specs.Relations.{In}
-use Rattle.pq_memo.specs.declared.frame.Frame.{Frame}
+use Rattle.pq_memo.specs.declared.stepping.frame.Frame.{Frame}
 use Rattle.pq_memo.specs.Sound.{Memo}
 use Rattle.pq_memo.specs.Look.{IsUpToDate}
 use Rattle.pq_memo.specs.Kept.{Kept}
 use Rattle.pq_memo.specs.Table.{View, HasIn, KeptOver, memo_at}
 use Rattle.pq_memo.specs.Frames.{frame_keys}
 use Rattle.pq_claims.specs.Claims.{Hold, hold_of, Holds, AreSound, WaitsFor, ReleasesAll}
-use Rattle.pq_core.specs.declared.rising.Place.{Place}
-use Rattle.pq_core.specs.declared.frames.Top.{Top}
-use Rattle.pq_core.specs.declared.frames.Top.TheVariants.{Empty, At, Away}
+use Rattle.pq_core.specs.declared.store.rising.Place.{Place}
+use Rattle.pq_core.specs.declared.runs.frames.Top.{Top}
+use Rattle.pq_core.specs.declared.runs.frames.Top.TheVariants.{Empty, At, Away}
 use Rattle.pq_core.specs.aux.Rising.{found}
 use Rattle.pq_core.specs.aux.RunSteps.{RunReady, RunStepped, step_state}
 use Rattle.pq_core.specs.aux.Runs.{RunView, RunKept, RunsKept, IsSameRun, AreStale, ClosesRing, OthersHold, Renewed, TopAwaits, WaitStands, OthersUnwritten, claimed_keys, run_keys}

@@ -6,7 +6,7 @@ use Rattle.std.proofs.lemmas.Bool.{ne_eqb, ltb-true, ltb-false}
 use Rattle.std.proofs.lemmas.Option.{slice_get_read, get_or_from_slice_get}
 use Rattle.pq_core.proofs.Lists.{some_one, get_within, same_or_other, set_same, set_long}
 use Rattle.pq_core.specs.Moves.{one_if}
-use Rattle.pq_core.specs.declared.rising.Place.{Place}
+use Rattle.pq_core.specs.declared.store.rising.Place.{Place}
 use Rattle.pq_core.specs.aux.Rising.{found, numbers, IsVacant, IsAbove, IsBelow, Rises, has_value, live_count, Compacts, NoneOf}
 
 none_of : {A : Type 0} {P : Type 0} (y : A) → None ≡ Some y → P

@@ -12,7 +12,7 @@ use Rattle.pq_memo.specs.Sound.{Memo}
 use Rattle.pq_memo.specs.Steps.{IsWhy}
 use Rattle.pq_memo.specs.Cause.{IsCause}
 use Rattle.pq_memo.specs.Table.{View, memo_at, HasIn}
-use Rattle.pq_memo.specs.declared.look.Why.{Why}
+use Rattle.pq_memo.specs.declared.table.look.Why.{Why}
 use Rattle.pq_claims.specs.Claims.{AreSound, Hold, hold_of}
 use Rattle.pq_core.specs.Points.{Point}
 use Rattle.pq_core.specs.Ledger.{Ledger, Out}
@@ -29,10 +29,10 @@ use Rattle.pq_core.specs.aux.Begun.{LooksFirst}
 use Rattle.pq_core.specs.aux.Changes.{IsSetAt}
 use Rattle.pq_core.specs.aux.RunSteps.{RunStepped, step_state}
 use Rattle.pq_core.specs.aux.RunStates.{IsCurrentRun, IsReady, SameClients, Steps, StepsTo, log_stepped}
-use Rattle.pq_core.specs.declared.frames.Looked.{Looked}
-use Rattle.pq_core.specs.declared.frames.Looked.TheVariants.{Carry, Stepped, Blocked, Ring}
-use Rattle.pq_core.specs.declared.moves.Move.TheVariants.{Carry as MoveCarry, Stepped as MoveStepped, Stopped as MoveStopped}
-use Rattle.pq_core.specs.declared.fault.GiveFault.TheVariants.{Memory as GiveMemory}
+use Rattle.pq_core.specs.declared.runs.frames.Looked.{Looked}
+use Rattle.pq_core.specs.declared.runs.frames.Looked.TheVariants.{Carry, Stepped, Blocked, Ring}
+use Rattle.pq_core.specs.declared.values.moves.Move.TheVariants.{Carry as MoveCarry, Stepped as MoveStepped, Stopped as MoveStopped}
+use Rattle.pq_core.specs.declared.values.fault.GiveFault.TheVariants.{Memory as GiveMemory}
 use Rattle.pq_core.proofs.Changing.{if_at}
 use Rattle.pq_core.proofs.Claiming.{holder_there}
 use Rattle.pq_core.proofs.Keeping.{kept_out}

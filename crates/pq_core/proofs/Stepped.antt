@@ -5,8 +5,8 @@ use Rattle.pq_inputs.specs.Sources.{Table}
 use Rattle.pq_rules.specs.Turns.{Machine}
 use Rattle.pq_rules.specs.Relations.{In}
 use Rattle.pq_rules.proofs.Weight.{Exact}
-use Rattle.pq_memo.specs.declared.frame.Frame.{Frame}
-use Rattle.pq_memo.specs.declared.frame.Stage.TheVariants.{Walking}
+use Rattle.pq_memo.specs.declared.stepping.frame.Frame.{Frame}
+use Rattle.pq_memo.specs.declared.stepping.frame.Stage.TheVariants.{Walking}
 use Rattle.pq_memo.specs.Sound.{Memo}
 use Rattle.pq_memo.specs.Look.{IsUpToDate}
 use Rattle.pq_memo.specs.Table.{View, memo_at, HasIn, IsSameTable, KeptOver}
@@ -20,13 +20,13 @@ use Rattle.pq_claims.specs.declared.claim.Claim.TheVariants.{Got}
 use Rattle.pq_claims.specs.Claims.{AreSound, Claimed, Hold, IsSet, hold_of}
 use Rattle.pq_core.specs.Works.{WorkView}
 use Rattle.pq_core.specs.Moves.{out_of}
-use Rattle.pq_core.specs.declared.frames.Pending.{Pending}
-use Rattle.pq_core.specs.declared.frames.Top.{Top}
-use Rattle.pq_core.specs.declared.frames.Top.TheVariants.{Empty, At, Away}
-use Rattle.pq_core.specs.declared.frames.Looked.{Looked}
-use Rattle.pq_core.specs.declared.frames.Looked.TheVariants.{Carry, Stepped, Blocked, Ring}
-use Rattle.pq_core.specs.declared.request.Request.{Request}
-use Rattle.pq_core.specs.declared.request.Want.TheVariants.{Demand}
+use Rattle.pq_core.specs.declared.runs.frames.Pending.{Pending}
+use Rattle.pq_core.specs.declared.runs.frames.Top.{Top}
+use Rattle.pq_core.specs.declared.runs.frames.Top.TheVariants.{Empty, At, Away}
+use Rattle.pq_core.specs.declared.runs.frames.Looked.{Looked}
+use Rattle.pq_core.specs.declared.runs.frames.Looked.TheVariants.{Carry, Stepped, Blocked, Ring}
+use Rattle.pq_core.specs.declared.values.request.Request.{Request}
+use Rattle.pq_core.specs.declared.values.request.Want.TheVariants.{Demand}
 use Rattle.pq_core.specs.aux.Runs.{AreStale, ClosesRing, Enters, FramesKept, HandedOut, HasLooked, HasMarked, IsLowered, IsStale, KeptBelow, OthersHold, Renewed, WaitStands, out_at, run_keys, top_keys}
 use Rattle.pq_core.specs.aux.Begun.{IsBegun, LooksFirst}
 use Rattle.pq_core.specs.aux.RunSteps.{RunReady, StepState, RunStepped, step_state}

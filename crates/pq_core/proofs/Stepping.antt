@@ -7,8 +7,8 @@ use Rattle.pq_inputs.specs.Sources.{Table}
 use Rattle.pq_rules.specs.Turns.{Machine}
 use Rattle.pq_rules.specs.Relations.{In, Chain, IsRing}
 use Rattle.pq_rules.specs.aux.Lists.{in_append, in_append_left, in_append_right}
-use Rattle.pq_memo.specs.declared.frame.Frame.{Frame}
-use Rattle.pq_memo.specs.declared.frame.Stage.TheVariants.{Walking}
+use Rattle.pq_memo.specs.declared.stepping.frame.Frame.{Frame}
+use Rattle.pq_memo.specs.declared.stepping.frame.Stage.TheVariants.{Walking}
 use Rattle.pq_memo.specs.Sound.{Memo}
 use Rattle.pq_memo.specs.Look.{IsUpToDate}
 use Rattle.pq_memo.specs.Table.{View, HasIn, memo_at}
@@ -18,10 +18,10 @@ use Rattle.pq_memo.proofs.Stacked.{keys_append}
 use Rattle.pq_claims.specs.declared.claim.Claim.TheVariants.{Got, HeldBy}
 use Rattle.pq_claims.specs.Claims.{AreSame, AreSound, Claimed, ComesNext, Hold, Holds, IsClosed, IsLast, IsSet, Precedes, hold_of}
 use Rattle.pq_core.specs.Works.{WorkView}
-use Rattle.pq_core.specs.declared.frames.Top.{Top}
-use Rattle.pq_core.specs.declared.frames.Top.TheVariants.{Empty, At, Away}
-use Rattle.pq_core.specs.declared.frames.Looked.{Looked}
-use Rattle.pq_core.specs.declared.frames.Looked.TheVariants.{Carry, Stepped, Blocked, Ring}
+use Rattle.pq_core.specs.declared.runs.frames.Top.{Top}
+use Rattle.pq_core.specs.declared.runs.frames.Top.TheVariants.{Empty, At, Away}
+use Rattle.pq_core.specs.declared.runs.frames.Looked.{Looked}
+use Rattle.pq_core.specs.declared.runs.frames.Looked.TheVariants.{Carry, Stepped, Blocked, Ring}
 use Rattle.pq_core.specs.aux.Runs.{AreStale, CanGoOn, Enters, FramesKept, HasLooked, IsLowered, KeptBelow, OthersUnwritten, WaitStands, out_at, run_keys}
 use Rattle.pq_core.proofs.Claiming.{lowered_keys, set_own}
 use Rattle.pq_core.proofs.Framed.{kept_as, lowered, lowered_idle, pushed_keys, pushed_waits, walked}

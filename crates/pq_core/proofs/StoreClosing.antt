@@ -19,7 +19,7 @@ use Rattle.pq_core.specs.Moves.{Reaches, Closes}
 use Rattle.pq_core.specs.Told.{Shuts}
 use Rattle.pq_core.specs.Accounts.{AccountView}
 use Rattle.pq_core.specs.Stores.{Held, fields_of, run_seen, StandsOf}
-use Rattle.pq_core.specs.declared.rising.Place.{Place}
+use Rattle.pq_core.specs.declared.store.rising.Place.{Place}
 use Rattle.pq_core.specs.aux.Rising.{found}
 use Rattle.pq_core.specs.aux.Accounts.{AccountStands}
 

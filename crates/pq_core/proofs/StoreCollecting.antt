@@ -27,11 +27,11 @@ use Rattle.pq_core.specs.Accounts.{AccountView, IsStage, with_stage, MaySee, Col
 use Rattle.pq_core.specs.Told.{Told, told_puts, TellsOne, Tells}
 use Rattle.pq_core.specs.Stores.{StoreView, Held, held, fields_of, StandsOf, StandsFor, IsMadeIn, MayTell, Hears}
 use Rattle.pq_core.specs.Stores.{Collects as StoreCollects}
-use Rattle.pq_core.specs.declared.moves.Released.TheVariants.{Put as ReleasedPut}
-use Rattle.pq_core.specs.declared.account.Stage.{Stage}
-use Rattle.pq_core.specs.declared.account.Stage.TheVariants.{Waiting, Made, Collected}
-use Rattle.pq_core.specs.declared.request.Request.{Request}
-use Rattle.pq_core.specs.declared.rising.Place.{Place as Slot}
+use Rattle.pq_core.specs.declared.values.moves.Released.TheVariants.{Put as ReleasedPut}
+use Rattle.pq_core.specs.declared.store.account.Stage.{Stage}
+use Rattle.pq_core.specs.declared.store.account.Stage.TheVariants.{Waiting, Made, Collected}
+use Rattle.pq_core.specs.declared.values.request.Request.{Request}
+use Rattle.pq_core.specs.declared.store.rising.Place.{Place as Slot}
 use Rattle.pq_core.specs.aux.Rising.{Slots, found, IsAbove}
 use Rattle.pq_core.specs.aux.Changes.{IsSetAt, IsSameMap}
 use Rattle.pq_core.specs.aux.Accounts.{StageAt, AccountStands}

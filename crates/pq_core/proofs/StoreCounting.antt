@@ -12,8 +12,8 @@ use Rattle.pq_rules.specs.Turns.{Machine}
 use Rattle.pq_rules.specs.Relations.{In}
 use Rattle.pq_rules.specs.aux.Lists.{in_append_right}
 use Rattle.pq_rules.proofs.Weight.{Exact}
-use Rattle.pq_memo.specs.declared.frame.Frame.{Frame}
-use Rattle.pq_memo.specs.declared.look.Why.{Why}
+use Rattle.pq_memo.specs.declared.stepping.frame.Frame.{Frame}
+use Rattle.pq_memo.specs.declared.table.look.Why.{Why}
 use Rattle.pq_memo.specs.Sound.{Memo}
 use Rattle.pq_memo.specs.Look.{IsUpToDate}
 use Rattle.pq_memo.specs.Table.{HasIn}
@@ -21,10 +21,10 @@ use Rattle.pq_memo.specs.Frames.{frame_keys}
 use Rattle.pq_claims.specs.Claims.{Hold, hold_of, Holds, AreSound}
 use Rattle.pq_core.specs.Ledger.{Out}
 use Rattle.pq_core.specs.Starts.{IsCounted, Log, count, log_end, log_work, no_log}
-use Rattle.pq_core.specs.declared.frames.Pending.{Pending}
-use Rattle.pq_core.specs.declared.frames.Top.{Top}
-use Rattle.pq_core.specs.declared.frames.Top.TheVariants.{Empty, At, Away}
-use Rattle.pq_core.specs.declared.rising.Place.{Place}
+use Rattle.pq_core.specs.declared.runs.frames.Pending.{Pending}
+use Rattle.pq_core.specs.declared.runs.frames.Top.{Top}
+use Rattle.pq_core.specs.declared.runs.frames.Top.TheVariants.{Empty, At, Away}
+use Rattle.pq_core.specs.declared.store.rising.Place.{Place}
 use Rattle.pq_core.specs.aux.Rising.{found}
 use Rattle.pq_core.specs.aux.Runs.{AreClaimed, AreStale, IsSameRun, OthersHold, Renewed, RunView, claimed_keys, out_at, run_keys}
 use Rattle.pq_core.specs.aux.Begun.{IsBegun, IsBegunIn, IsFirst, KeepsBegun}

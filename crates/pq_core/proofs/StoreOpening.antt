@@ -16,12 +16,12 @@ use Rattle.pq_core.specs.Ledger.{Ledger, opened, unused}
 use Rattle.pq_core.specs.RightReply.{answer_by}
 use Rattle.pq_core.specs.Moves.{Reaches, Opens, OpenRefusal, open_count, max_clients}
 use Rattle.pq_core.specs.Stores.{Held, fields_of, run_seen, StandsOf}
-use Rattle.pq_core.specs.declared.rising.Place.{Place}
+use Rattle.pq_core.specs.declared.store.rising.Place.{Place}
 use Rattle.pq_core.specs.aux.Rising.{found}
 use Rattle.pq_core.specs.Accounts.{no_requests}
 use Rattle.pq_core.specs.Told.{Told, told_puts, OpensNext}
 use Rattle.pq_core.specs.aux.Accounts.{AccountStands}
-use Rattle.pq_core.specs.declared.fault.OpenFault.TheVariants.{TooManyClients, Memory as OpenMemory}
+use Rattle.pq_core.specs.declared.values.fault.OpenFault.TheVariants.{TooManyClients, Memory as OpenMemory}
 
 -- `SameMaps b a` is that `a` keeps of clients and runs what `b` keeps
 pub record SameMaps {K P V M : Type 0} (b a : Held K P V M) : Type 0 where

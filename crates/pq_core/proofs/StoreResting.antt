@@ -1,5 +1,6 @@
 -- Whether requests wait and runs exist, at what a store keeps.
-use Rattle.std.proofs.Common.{◌≡◌, ℕ, Bool, true, false, List, [], ◌∷◌, length, Option, Some, None, refl, sym, ap, subst, inl, arith, not}
+use Rattle.std.proofs.Common.{◌≡◌, ◌==◌, ◌↔◌, ℕ, Bool, true, false, List, [], ◌∷◌, length, Option, Some, None, refl, sym, ◌∙◌, ap, subst, inl, arith, not, eq-eqb}
+use Rattle.std.proofs.lemmas.Bool.{eqb-true}
 use Rattle.std.specs.Option.{option_map}
 use Rattle.std.specs.declared.cmp.Ordering.{Ordering}
 use Rattle.pq_rules.specs.Turns.{Machine}
@@ -17,8 +18,8 @@ use Rattle.pq_core.specs.aux.Accounts.{AccountStands}
 use Rattle.pq_core.specs.aux.Stands.{IsOwedNothing}
 use Rattle.pq_core.specs.aux.Runs.{RunView}
 use Rattle.pq_core.specs.aux.Queue.{WaitsIn, IsQueue}
-use Rattle.pq_core.specs.declared.request.Request.{Request}
-use Rattle.pq_core.specs.declared.account.Stage.TheVariants.{Waiting}
+use Rattle.pq_core.specs.declared.values.request.Request.{Request}
+use Rattle.pq_core.specs.declared.store.account.Stage.TheVariants.{Waiting}
 
 pub not_both : (t : Bool) → t ≡ false → t ≡ true → ⊥
 not_both t e f = cc
@@ -26,6 +27,10 @@ not_both t e f = cc
 pub not_true : (t : Bool) → not t ≡ true → t ≡ false
 not_true true e = sym e
 not_true false e = refl
+
+not_false : (t : Bool) → not t ≡ false → t ≡ true
+not_false true e = refl
+not_false false e = sym e
 
 pub true_not : (t : Bool) → (t ≡ true → ⊥) → not t ≡ true
 true_not true f = absurd (f refl)
@@ -84,9 +89,22 @@ module _ {K P V M O : Type 0} (order : K → K → Ordering) (m : Machine K P V)
           let x = run_at (AccountStands puts) (answer_by order m point) puts (fields_of b) l r (run_seen run) s (ap (option_map run_seen) e) in
           absurd (none r x.0 x.1)
 
+  -- no request waits where the queue is empty
+  none_seen : (b : Held K P V M) (l : Ledger K V M O) → StandsOf order m point puts b l → IsQueue b.accounts [] → NoneWaits l
+  none_seen b l s waits c client n entry w = waits.queued c n entry.request (waits_seen b l c client n entry s w)
+
+  -- whether a request waits, by the test of the queue's length
+  pub waiting_tells : (b : Held K P V M) (queue : List (ℕ × ℕ)) (l : Ledger K V M O) (empty : Bool) → empty ≡ (length queue == 0) → IsQueue b.accounts queue → StandsOf order m point puts b l
+      → (not empty ≡ false) ↔ NoneWaits l
+  waiting_tells b [] l empty e q s = (λ t. none_seen b l s q, λ none. ap (λ (t : Bool). not t) (e ∙ eq-eqb 0 0 refl))
+  waiting_tells b (seat ∷ queue) l empty e q s = (
+    λ t. let none : length (seat ∷ queue) ≡ 0 = eqb-true (length (seat ∷ queue)) 0 (sym e ∙ not_false empty t) in absurd (omega arith),
+    λ none. absurd (waits_not_idle b (seat ∷ queue) l q (λ z. cc) s none),
+  )
+
   pub all_idle : (b : Held K P V M) (l : Ledger K V M O) → StandsOf order m point puts b l → IsQueue b.accounts []
       → ((r : ℕ) → found b.runs r ≡ None) → NoneWaits l × ((run : ℕ) → NoneRuns l run)
   all_idle b l s waits runs = (
-    λ c client n entry w. waits.queued c n entry.request (waits_seen b l c client n entry s w),
+    none_seen b l s waits,
     λ r. none_runs (AccountStands puts) (answer_by order m point) puts (fields_of b) l r s (ap (option_map run_seen) (runs r)),
   )

@@ -9,8 +9,8 @@ use Rattle.pq_memo.specs.Sound.{Memo}
 use Rattle.pq_memo.specs.Look.{HasChangedRead, IsFresh, IsLapsedRing}
 use Rattle.pq_memo.specs.Steps.{IsWhy}
 use Rattle.pq_memo.specs.Cause.{IsCause}
-use Rattle.pq_memo.specs.declared.look.Why.{Why}
-use Rattle.pq_memo.specs.declared.look.Why.TheVariants.{Fresh, Changed, Ring}
+use Rattle.pq_memo.specs.declared.table.look.Why.{Why}
+use Rattle.pq_memo.specs.declared.table.look.Why.TheVariants.{Fresh, Changed, Ring}
 use Rattle.std.proofs.lemmas.Bool.{eqb-true}
 use Rattle.pq_core.proofs.Lists.{some_one}
 use Rattle.pq_core.proofs.Changing.{if_at, if_other}
@@ -31,7 +31,7 @@ use Rattle.pq_rules.specs.declared.turn.Answer.{Answer}
 use Rattle.pq_core.specs.Moves.{Reaches, RunAt, Runs, NoneRuns, IsOvertaken, IsCurrent, IsBlocked, GoesOn, IsOf, LooksFor, Gives, out_of, Stops, ended, ended_entry, place_ended, reply_at, with_out}
 use Rattle.pq_core.specs.Stores.{Held, fields_of, run_seen as seen_of, StandsOf}
 use Rattle.pq_core.specs.aux.Stands.{RunSeen}
-use Rattle.pq_core.specs.declared.rising.Place.{Place}
+use Rattle.pq_core.specs.declared.store.rising.Place.{Place}
 use Rattle.pq_core.specs.aux.Rising.{found}
 use Rattle.pq_core.specs.aux.Runs.{RunView, IsSameRun, HandedOut, IsAnswer, out_at}
 use Rattle.pq_core.specs.Accounts.{AccountView, IsStage, with_stage}
@@ -39,18 +39,18 @@ use Rattle.pq_core.specs.Truth.{IsTrueReply}
 use Rattle.pq_core.specs.aux.Accounts.{AccountStands}
 use Rattle.pq_core.specs.aux.Rising.{Slots}
 use Rattle.pq_core.specs.aux.Changes.{IsSetAt}
-use Rattle.pq_core.specs.declared.account.Begun.{Begun}
-use Rattle.pq_core.specs.declared.account.Stage.{Stage}
+use Rattle.pq_core.specs.declared.store.account.Begun.{Begun}
+use Rattle.pq_core.specs.declared.store.account.Stage.{Stage}
 use Rattle.pq_core.specs.Lanes.{ReadyView}
-use Rattle.pq_core.specs.declared.request.Request.{Request}
+use Rattle.pq_core.specs.declared.values.request.Request.{Request}
 use Rattle.pq_rules.specs.Turns.{over}
 use Rattle.pq_rules.specs.Value.{Means}
 use Rattle.pq_core.specs.aux.Queue.{IsQueue}
 use Rattle.pq_core.specs.aux.Advancing.{AllGoOn}
-use Rattle.pq_core.specs.declared.account.Stage.TheVariants.{Running, Made}
-use Rattle.pq_core.specs.declared.outcome.Outcome.{Outcome}
-use Rattle.pq_core.specs.declared.outcome.Outcome.TheVariants.{Cancelled, Answered}
-use Rattle.pq_core.specs.declared.moves.Move.TheVariants.{Carry, Stepped, Answered as MoveAnswered, Stopped}
+use Rattle.pq_core.specs.declared.store.account.Stage.TheVariants.{Running, Made}
+use Rattle.pq_core.specs.declared.values.outcome.Outcome.{Outcome}
+use Rattle.pq_core.specs.declared.values.outcome.Outcome.TheVariants.{Cancelled, Answered}
+use Rattle.pq_core.specs.declared.values.moves.Move.TheVariants.{Carry, Stepped, Answered as MoveAnswered, Stopped}
 
 -- `at_seen at` is what the ledger knows of the run `at`
 abbrev pub at_seen : {K V M O : Type 0} → RunAt K V M O → RunSeen K

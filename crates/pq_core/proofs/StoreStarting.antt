@@ -21,8 +21,8 @@ use Rattle.pq_core.specs.aux.Accounts.{AccountStands}
 use Rattle.pq_core.specs.aux.Runs.{RunView}
 use Rattle.pq_core.specs.aux.Stands.{RunSeen}
 use Rattle.pq_core.specs.aux.Queue.{IsQueue}
-use Rattle.pq_core.specs.declared.request.Request.{Request}
-use Rattle.pq_core.specs.declared.account.Stage.TheVariants.{Waiting, Running}
+use Rattle.pq_core.specs.declared.values.request.Request.{Request}
+use Rattle.pq_core.specs.declared.store.account.Stage.TheVariants.{Waiting, Running}
 
 -- `seen_of c n request revision` is a run at its start
 abbrev pub seen_of : {K : Type 0} → ℕ → ℕ → Request K → ℕ → RunSeen K

@@ -12,28 +12,28 @@ use Rattle.pq_core.specs.Ledger.{Out, Running, Put, Entry, Client, Ledger, IsOpe
 use Rattle.pq_core.specs.Moves.{one_if, open_count, window, owed, OpenRefusal, Opens, AcceptRefusal, Accepts, new_entry, with_new, TurnsClient, Turns, TurnsIf, is_turn, EditRefusal, Edits, edited, Waits, NoneWaits, Starts, started_at, RunAt, Runs, NoneRuns, IsRequestOf, ended, with_out, out_of, IsOvertaken, IsCurrent, GoesOn, IsBlocked, LooksFor, IsOf, Gives, Starves, TellsSome, WithdrawsEach, WithdrawRefusal, Withdraws, NextReady, IsReady, Releases}
 use Rattle.pq_core.specs.Kept.{Kept}
 use Rattle.pq_core.specs.Told.{Told, told_puts, told_client, told_ledger, IsReadyAt, NoneReadyAt, OpensNext, Shuts, TellsOne}
-use Rattle.pq_core.specs.declared.label.Label.{Label}
-use Rattle.pq_core.specs.declared.request.Request.{Request}
-use Rattle.pq_core.specs.declared.outcome.Outcome.{Outcome}
-use Rattle.pq_core.specs.declared.outcome.Outcome.TheVariants.{Answered, Cancelled, Starved}
-use Rattle.pq_core.specs.declared.moves.Move.{Move}
-use Rattle.pq_core.specs.declared.moves.Move.TheVariants.{Carry, Blocked, Stepped, Answered as MoveAnswered, Stopped}
-use Rattle.pq_core.specs.declared.moves.Released.TheVariants.{Put as ReleasedPut}
-use Rattle.pq_core.specs.declared.fault.OpenFault.{OpenFault}
-use Rattle.pq_core.specs.declared.fault.OpenFault.TheVariants.{TooManyClients, Memory as OpenMemory}
-use Rattle.pq_core.specs.declared.fault.AcceptFault.{AcceptFault}
-use Rattle.pq_core.specs.declared.fault.AcceptFault.TheVariants.{NoClient as AcceptNoClient, Closed as AcceptClosed, WindowFull, Memory as AcceptMemory}
-use Rattle.pq_core.specs.declared.fault.AcceptRefused.{AcceptRefused}
-use Rattle.pq_core.specs.declared.fault.EditFault.{EditFault}
-use Rattle.pq_core.specs.declared.fault.EditFault.TheVariants.{NoClient as EditNoClient, Closed as EditClosed, BadRange, Input}
-use Rattle.pq_core.specs.declared.fault.EditRefused.{EditRefused}
-use Rattle.pq_core.specs.declared.fault.LookFault.{LookFault}
-use Rattle.pq_core.specs.declared.fault.LookFault.TheVariants.{NoRun, Memory as LookMemory}
-use Rattle.pq_core.specs.declared.fault.GiveFault.{GiveFault}
-use Rattle.pq_core.specs.declared.fault.GiveFault.TheVariants.{NotThisRun, Memory as GiveMemory}
-use Rattle.pq_core.specs.declared.fault.GiveRefused.{GiveRefused}
-use Rattle.pq_core.specs.declared.fault.WithdrawFault.{WithdrawFault}
-use Rattle.pq_core.specs.declared.fault.WithdrawFault.TheVariants.{NoClient as WithdrawNoClient, Closed as WithdrawClosed}
+use Rattle.pq_core.specs.declared.values.label.Label.{Label}
+use Rattle.pq_core.specs.declared.values.request.Request.{Request}
+use Rattle.pq_core.specs.declared.values.outcome.Outcome.{Outcome}
+use Rattle.pq_core.specs.declared.values.outcome.Outcome.TheVariants.{Answered, Cancelled, Starved}
+use Rattle.pq_core.specs.declared.values.moves.Move.{Move}
+use Rattle.pq_core.specs.declared.values.moves.Move.TheVariants.{Carry, Blocked, Stepped, Answered as MoveAnswered, Stopped}
+use Rattle.pq_core.specs.declared.values.moves.Released.TheVariants.{Put as ReleasedPut}
+use Rattle.pq_core.specs.declared.values.fault.OpenFault.{OpenFault}
+use Rattle.pq_core.specs.declared.values.fault.OpenFault.TheVariants.{TooManyClients, Memory as OpenMemory}
+use Rattle.pq_core.specs.declared.values.fault.AcceptFault.{AcceptFault}
+use Rattle.pq_core.specs.declared.values.fault.AcceptFault.TheVariants.{NoClient as AcceptNoClient, Closed as AcceptClosed, WindowFull, Memory as AcceptMemory}
+use Rattle.pq_core.specs.declared.values.fault.AcceptRefused.{AcceptRefused}
+use Rattle.pq_core.specs.declared.values.fault.EditFault.{EditFault}
+use Rattle.pq_core.specs.declared.values.fault.EditFault.TheVariants.{NoClient as EditNoClient, Closed as EditClosed, BadRange, Input}
+use Rattle.pq_core.specs.declared.values.fault.EditRefused.{EditRefused}
+use Rattle.pq_core.specs.declared.values.fault.LookFault.{LookFault}
+use Rattle.pq_core.specs.declared.values.fault.LookFault.TheVariants.{NoRun, Memory as LookMemory}
+use Rattle.pq_core.specs.declared.values.fault.GiveFault.{GiveFault}
+use Rattle.pq_core.specs.declared.values.fault.GiveFault.TheVariants.{NotThisRun, Memory as GiveMemory}
+use Rattle.pq_core.specs.declared.values.fault.GiveRefused.{GiveRefused}
+use Rattle.pq_core.specs.declared.values.fault.WithdrawFault.{WithdrawFault}
+use Rattle.pq_core.specs.declared.values.fault.WithdrawFault.TheVariants.{NoClient as WithdrawNoClient, Closed as WithdrawClosed}
 
 -- ---- lists
 

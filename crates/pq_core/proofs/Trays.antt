@@ -5,7 +5,7 @@ use Rattle.pq_core.specs.Replies.{ReplyView}
 use Rattle.pq_core.specs.Moves.{window}
 use Rattle.pq_core.specs.Outboxes.{TakesNext}
 use Rattle.pq_core.specs.Lanes.{ReadyView, Tray, empty_tray, HasPlace, placed_in, IsNextIn, LetsOutOf, TakesOutOf, after_next, tray_with, tray_after, TrayKept}
-use Rattle.pq_core.specs.declared.moves.Released.TheVariants.{Put as ReleasedPut, Full as ReleasedFull, Gone as ReleasedGone, Nothing as ReleasedNothing}
+use Rattle.pq_core.specs.declared.values.moves.Released.TheVariants.{Put as ReleasedPut, Full as ReleasedFull, Gone as ReleasedGone, Nothing as ReleasedNothing}
 use Rattle.pq_core.proofs.Lists.{some_one, get_set, get_append, set_long, append_long}
 use Rattle.pq_core.proofs.Writes.{nothing_there, drop_get, drop_long}
 

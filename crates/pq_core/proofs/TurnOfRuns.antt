@@ -17,8 +17,8 @@ use Rattle.pq_core.specs.RightReply.{answer_by}
 use Rattle.pq_core.specs.Starts.{IsCounted, IsCountedIn, Log}
 use Rattle.pq_core.specs.Stores.{Goes, StandsFor, StoreView, held}
 use Rattle.pq_core.specs.Told.{Told, told_puts}
-use Rattle.pq_core.specs.declared.outcome.Outcome.TheVariants.{Cancelled}
-use Rattle.pq_core.specs.declared.run_end.Ending.TheVariants.{Stopped}
+use Rattle.pq_core.specs.declared.values.outcome.Outcome.TheVariants.{Cancelled}
+use Rattle.pq_core.specs.declared.steps.run_end.Ending.TheVariants.{Stopped}
 use Rattle.pq_core.specs.aux.Advancing.{AllGoOn}
 use Rattle.pq_core.specs.aux.Rising.{Slots, found, numbers}
 use Rattle.pq_core.specs.aux.RunEnds.{EndsBy, MayEnd}

@@ -10,7 +10,7 @@ use Rattle.pq_core.proofs.AccountMoves.{drop_more}
 use Rattle.pq_core.proofs.Lists.{some_one, none_some}
 use Rattle.pq_core.specs.aux.Queue.{is_of_other, is_other_seat}
 use Rattle.pq_core.specs.aux.Turns.{seats_in, seats_of, FirstWaits}
-use Rattle.pq_core.specs.declared.queue.ClientTurn.{ClientTurn}
+use Rattle.pq_core.specs.declared.store.queue.ClientTurn.{ClientTurn}
 
 -- ---- lists
 

@@ -14,7 +14,7 @@ use Rattle.pq_core.specs.RightReply.{answer_by}
 use Rattle.pq_core.specs.Lanes.{ReadyView}
 use Rattle.pq_core.specs.Told.{Told, told_puts, IsReadyAt}
 use Rattle.pq_core.specs.Stores.{StoreView, held, fields_of, StandsFor, IsMadeIn, Makes, Goes, KeepsMemos}
-use Rattle.pq_core.specs.declared.account.Stage.TheVariants.{Made}
+use Rattle.pq_core.specs.declared.store.account.Stage.TheVariants.{Made}
 use Rattle.pq_core.specs.aux.Accounts.{AccountStands}
 
 module _ {R K P V M : Type 0} (order : K → K → Ordering) (m : Machine K P V) (point : M → Point) where

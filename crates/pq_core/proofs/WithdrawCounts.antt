@@ -14,9 +14,9 @@ use Rattle.pq_memo.specs.Table.{memo_at}
 use Rattle.pq_claims.specs.Claims.{Hold, hold_of}
 use Rattle.pq_core.specs.Starts.{IsCounted, IsCountedIn, Log, count, events_of, lost_among, lost_at, same_label}
 use Rattle.pq_core.specs.Stores.{StoreView}
-use Rattle.pq_core.specs.declared.label.Label.{Label}
-use Rattle.pq_core.specs.declared.label.Label.TheVariants.{None as NoLabel, Unsigned, Negative, Text}
-use Rattle.pq_core.specs.declared.rising.Place.{Place as Slot}
+use Rattle.pq_core.specs.declared.values.label.Label.{Label}
+use Rattle.pq_core.specs.declared.values.label.Label.TheVariants.{None as NoLabel, Unsigned, Negative, Text}
+use Rattle.pq_core.specs.declared.store.rising.Place.{Place as Slot}
 use Rattle.pq_core.specs.aux.Rising.{found}
 use Rattle.pq_core.specs.aux.Runs.{AreClaimed, RunView}
 use Rattle.pq_core.specs.aux.Withdrawing.{WithdrawsRuns}

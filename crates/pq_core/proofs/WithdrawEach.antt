@@ -16,10 +16,10 @@ use Rattle.pq_core.specs.aux.Advancing.{AllGoOn}
 use Rattle.pq_core.specs.aux.Rising.{found}
 use Rattle.pq_core.specs.aux.Runs.{RunView}
 use Rattle.pq_core.specs.aux.Withdrawing.{MayNotWithdraw, TellsBelow, WithdrawsBelow, WithdrawsOne, WithdrawsRuns}
-use Rattle.pq_core.specs.declared.fault.WithdrawFault.{WithdrawFault}
-use Rattle.pq_core.specs.declared.fault.WithdrawFault.TheVariants.{NoClient, Closed}
-use Rattle.pq_core.specs.declared.label.Label.{Label}
-use Rattle.pq_core.specs.declared.rising.Place.{Place as Slot}
+use Rattle.pq_core.specs.declared.values.fault.WithdrawFault.{WithdrawFault}
+use Rattle.pq_core.specs.declared.values.fault.WithdrawFault.TheVariants.{NoClient, Closed}
+use Rattle.pq_core.specs.declared.values.label.Label.{Label}
+use Rattle.pq_core.specs.declared.store.rising.Place.{Place as Slot}
 use Rattle.pq_core.proofs.AccountMoves.{before_or_not}
 use Rattle.pq_core.proofs.Calling.{closed_of, open_of}
 use Rattle.pq_core.proofs.Lists.{get_set, get_there, get_within, set_long, set_same, set_twice, some_one}

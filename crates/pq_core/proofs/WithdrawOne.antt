@@ -23,18 +23,18 @@ use Rattle.pq_core.specs.aux.RunEnds.{EndsBy}
 use Rattle.pq_core.specs.aux.Stands.{RunSeen, EntryStands}
 use Rattle.pq_core.specs.aux.Withdrawing.{IsOtherStage, IsOwedIn, IsRunOf, IsWithdrawnIn, WithdrawsWaiting, WithdrawsOne, WithdrawsRuns, withdrawn_reply}
 use Rattle.pq_core.specs.aux.Advancing.{Advances}
-use Rattle.pq_core.specs.declared.account.Begun.{Begun}
-use Rattle.pq_core.specs.declared.account.Stage.{Stage}
-use Rattle.pq_core.specs.declared.account.Stage.TheVariants.{Waiting as StageWaiting, Running as StageRunning, Made, Collected}
-use Rattle.pq_core.specs.declared.label.Label.{Label}
-use Rattle.pq_core.specs.declared.outcome.Outcome.TheVariants.{Withdrawn}
-use Rattle.pq_core.specs.declared.request.Request.{Request}
-use Rattle.pq_core.specs.declared.request.Want.{Want}
-use Rattle.pq_core.specs.declared.request.Want.TheVariants.{Demand, Fixed}
-use Rattle.pq_core.specs.declared.rising.Place.{Place as Slot}
-use Rattle.pq_core.specs.declared.run_end.Ending.TheVariants.{Withdrawn as EndWithdrawn}
-use Rattle.pq_core.specs.declared.withdrawing.Owed.{Owed}
-use Rattle.pq_core.specs.declared.withdrawing.Owed.TheVariants.{Nothing, Waits as OwedWaits, Runs as OwedRuns}
+use Rattle.pq_core.specs.declared.store.account.Begun.{Begun}
+use Rattle.pq_core.specs.declared.store.account.Stage.{Stage}
+use Rattle.pq_core.specs.declared.store.account.Stage.TheVariants.{Waiting as StageWaiting, Running as StageRunning, Made, Collected}
+use Rattle.pq_core.specs.declared.values.label.Label.{Label}
+use Rattle.pq_core.specs.declared.values.outcome.Outcome.TheVariants.{Withdrawn}
+use Rattle.pq_core.specs.declared.values.request.Request.{Request}
+use Rattle.pq_core.specs.declared.values.request.Want.{Want}
+use Rattle.pq_core.specs.declared.values.request.Want.TheVariants.{Demand, Fixed}
+use Rattle.pq_core.specs.declared.store.rising.Place.{Place as Slot}
+use Rattle.pq_core.specs.declared.steps.run_end.Ending.TheVariants.{Withdrawn as EndWithdrawn}
+use Rattle.pq_core.specs.declared.calls.withdrawing.Owed.{Owed}
+use Rattle.pq_core.specs.declared.calls.withdrawing.Owed.TheVariants.{Nothing, Waits as OwedWaits, Runs as OwedRuns}
 use Rattle.pq_core.proofs.AccountMoves.{one_stage}
 use Rattle.pq_core.proofs.AccountStanding.{IsPending, set_stands, stage_at, stage_of}
 use Rattle.pq_core.proofs.Calling.{open_of, seat_open, placed}

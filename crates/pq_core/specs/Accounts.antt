@@ -4,12 +4,12 @@
 -- as put. A reply that is made is collected once, by the thread that fills it into the lane.
 use Rattle.std.specs.Prelude.{ℕ, ◌≡◌, ◌+◌, ◌-◌, ◌<◌, ◌≤◌, List, [], ◌∷◌, ◌++◌, length, drop, slice_get, slice_set, Option, Some, None}
 use Rattle.pq_core.specs.Lanes.{ReadyView}
-use Rattle.pq_core.specs.declared.request.Request.{Request}
-use Rattle.pq_core.specs.declared.request.Want.{Want}
-use Rattle.pq_core.specs.declared.request.Want.TheVariants.{Demand, Fixed}
-use Rattle.pq_core.specs.declared.outcome.Outcome.TheVariants.{Plain}
-use Rattle.pq_core.specs.declared.account.Stage.{Stage}
-use Rattle.pq_core.specs.declared.account.Stage.TheVariants.{Waiting, Made, Collected}
+use Rattle.pq_core.specs.declared.values.request.Request.{Request}
+use Rattle.pq_core.specs.declared.values.request.Want.{Want}
+use Rattle.pq_core.specs.declared.values.request.Want.TheVariants.{Demand, Fixed}
+use Rattle.pq_core.specs.declared.values.outcome.Outcome.TheVariants.{Plain}
+use Rattle.pq_core.specs.declared.store.account.Stage.{Stage}
+use Rattle.pq_core.specs.declared.store.account.Stage.TheVariants.{Waiting, Made, Collected}
 
 -- `AccountView K V M` is an open client: the number below which all replies are acknowledged, and
 -- the stages of its requests from that number on

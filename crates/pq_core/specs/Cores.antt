@@ -9,7 +9,7 @@ use Rattle.pq_memo.specs.Table.{memo_at, HasIn}
 use Rattle.pq_memo.specs.Cause.{IsCause}
 use Rattle.pq_claims.specs.Claims.{Hold}
 use Rattle.pq_core.specs.Works.{WorkView, IsWorkOf, HasWhy}
-use Rattle.pq_core.specs.declared.moves.Move.{Move}
+use Rattle.pq_core.specs.declared.values.moves.Move.{Move}
 use Rattle.pq_core.specs.Points.{Point}
 use Rattle.pq_core.specs.Replies.{ReplyView}
 use Rattle.pq_core.specs.Ledger.{Ledger}

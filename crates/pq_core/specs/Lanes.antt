@@ -10,8 +10,8 @@ use Rattle.pq_core.specs.Replies.{ReplyView}
 use Rattle.pq_core.specs.Truth.{IsTrueReply}
 use Rattle.pq_core.specs.Outboxes.{TakesNext}
 use Rattle.pq_core.specs.Moves.{window}
-use Rattle.pq_core.specs.declared.moves.Released.{Released}
-use Rattle.pq_core.specs.declared.moves.Released.TheVariants.{Put as ReleasedPut, Full as ReleasedFull, Gone as ReleasedGone, Nothing as ReleasedNothing}
+use Rattle.pq_core.specs.declared.values.moves.Released.{Released}
+use Rattle.pq_core.specs.declared.values.moves.Released.TheVariants.{Put as ReleasedPut, Full as ReleasedFull, Gone as ReleasedGone, Nothing as ReleasedNothing}
 
 -- `ReadyView K V M` is a reply that was collected, and the revision at the acceptance of its request
 pub record ReadyView (K V M : Type 0) : Type 0 where

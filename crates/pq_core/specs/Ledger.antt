@@ -8,7 +8,7 @@
 use Rattle.std.specs.Prelude.{ℕ, ◌≡◌, Bool, true, false, List, [], map, slice_get, slice_set, Option, Some}
 use Rattle.pq_inputs.specs.Sources.{Table}
 use Rattle.pq_core.specs.Replies.{ReplyView}
-use Rattle.pq_core.specs.declared.request.Request.{Request}
+use Rattle.pq_core.specs.declared.values.request.Request.{Request}
 
 -- `Out K` is work of a run that was handed out: its key, and the number of reads of its rule before
 pub record Out (K : Type 0) : Type 0 where

@@ -1,8 +1,8 @@
 -- Outboxes: what a refused put hands back, what a take takes, and lists of limited room.
 use Rattle.std.specs.Prelude.{ℕ, ◌≡◌, ◌≤◌, ◌-◌, ◌++◌, ◌∷◌, [], List, length, take, slice_get, Some}
 use Rattle.pq_core.specs.Replies.{ReplyView}
-use Rattle.pq_core.specs.declared.outbox.PutFault.{PutFault}
-use Rattle.pq_core.specs.declared.outbox.PutFault.TheVariants.{Full, Gone}
+use Rattle.pq_core.specs.declared.lanes.outbox.PutFault.{PutFault}
+use Rattle.pq_core.specs.declared.lanes.outbox.PutFault.TheVariants.{Full, Gone}
 
 -- `handed_back fault` is the reply that a refused put hands back
 abbrev pub handed_back : {K V M : Type 0} → PutFault K V M → ReplyView K V M

@@ -3,7 +3,7 @@ use Rattle.std.specs.Prelude.{ℕ, List, Option, Result, Ok, Err, string_bytes}
 use Rattle.std.specs.declared.string.String.{String}
 use Rattle.std.specs.Option.{option_map}
 use Rattle.pq_core.specs.Changes.{ChangeView}
-use Rattle.pq_core.specs.declared.fault.EditRefused.{EditRefused}
+use Rattle.pq_core.specs.declared.values.fault.EditRefused.{EditRefused}
 
 -- `PreparedView` is a change, and the text of its file from which the text after it was made
 pub record PreparedView : Type 0 where

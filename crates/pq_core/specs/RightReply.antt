@@ -9,10 +9,10 @@ use Rattle.pq_rules.specs.Value.{Means}
 use Rattle.pq_core.specs.Points.{Point}
 use Rattle.pq_core.specs.Replies.{ReplyView}
 use Rattle.pq_core.specs.Ledger.{Fate, WasStarved, WasWithdrawn, Entry, Client, Ledger, IsEntry}
-use Rattle.pq_core.specs.declared.request.Want.{Want}
-use Rattle.pq_core.specs.declared.request.Want.TheVariants.{Demand, Fixed}
-use Rattle.pq_core.specs.declared.outcome.Outcome.{Outcome}
-use Rattle.pq_core.specs.declared.outcome.Outcome.TheVariants.{Answered, Plain, Cancelled, Starved, Withdrawn}
+use Rattle.pq_core.specs.declared.values.request.Want.{Want}
+use Rattle.pq_core.specs.declared.values.request.Want.TheVariants.{Demand, Fixed}
+use Rattle.pq_core.specs.declared.values.outcome.Outcome.{Outcome}
+use Rattle.pq_core.specs.declared.values.outcome.Outcome.TheVariants.{Answered, Plain, Cancelled, Starved, Withdrawn}
 
 -- `answer_by order machine point stamp at key answer` is that `answer` is that of `key` from scratch,
 -- over the sources of `at`, and that `at` is the point of `stamp`

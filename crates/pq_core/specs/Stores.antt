@@ -11,8 +11,8 @@ use Rattle.pq_memo.specs.Demand.{NoneLost}
 use Rattle.pq_memo.specs.Cause.{IsCause}
 use Rattle.pq_claims.specs.Claims.{Hold, WaitsFor}
 use Rattle.pq_core.specs.Works.{WorkView, IsWorkOf, HasWhy}
-use Rattle.pq_core.specs.declared.moves.Move.{Move}
-use Rattle.pq_core.specs.declared.moves.Move.TheVariants.{Carry, Blocked, Stepped, Answered, Stopped}
+use Rattle.pq_core.specs.declared.values.moves.Move.{Move}
+use Rattle.pq_core.specs.declared.values.moves.Move.TheVariants.{Carry, Blocked, Stepped, Answered, Stopped}
 use Rattle.pq_core.specs.Points.{Point, point_now}
 use Rattle.pq_core.specs.Replies.{ReplyView}
 use Rattle.pq_core.specs.Ledger.{Entry, Client, Ledger, IsOpen}
@@ -20,8 +20,8 @@ use Rattle.pq_core.specs.Told.{Told, told_puts, IsReadyAt, NoneReadyAt, Tells}
 use Rattle.pq_core.specs.RightReply.{answer_by}
 use Rattle.pq_core.specs.Lanes.{ReadyView}
 use Rattle.pq_core.specs.Accounts.{AccountView, IsStage}
-use Rattle.pq_core.specs.declared.account.Stage.TheVariants.{Made}
-use Rattle.pq_core.specs.declared.rising.Place.{Place}
+use Rattle.pq_core.specs.declared.store.account.Stage.TheVariants.{Made}
+use Rattle.pq_core.specs.declared.store.rising.Place.{Place}
 use Rattle.pq_core.specs.aux.Rising.{Slots, found, IsAbove}
 use Rattle.pq_core.specs.aux.Accounts.{AccountStands}
 use Rattle.pq_core.specs.aux.Runs.{RunView, RunsKept, out_at}
@@ -108,6 +108,13 @@ pub record IsMadeIn {R K P V M : Type 0} (store : StoreView R K P V M) (c n : �
   pub account : AccountView K V M
   pub here : found store.accounts.items c ≡ Some account
   pub made : IsStage account n (Made ready)
+
+-- `OwesIn store c` is that the client `c` is open, and that a request of it was accepted whose reply was
+-- not acknowledged as put
+pub record OwesIn {R K P V M : Type 0} (store : StoreView R K P V M) (c : ℕ) : Type 0 where
+  pub account : AccountView K V M
+  pub here : found store.accounts.items c ≡ Some account
+  pub some : 0 < length account.stages
 
 -- `NoneMade store` is that no reply is made and not collected
 abbrev pub NoneMade : {R K P V M : Type 0} → StoreView R K P V M → Type 0

@@ -7,8 +7,8 @@ use Rattle.std.specs.Prelude.{ℕ, ◌≡◌, ◌+◌, ◌<◌, ◌^◌, Bool, t
 use Rattle.pq_core.specs.Replies.{ReplyView}
 use Rattle.pq_core.specs.Ledger.{Entry, Client, Ledger, Ready, Put, IsOpen, IsEntry, with_client, with_entry, moved_to, with_outbox, opened, closed}
 use Rattle.pq_core.specs.Moves.{NextReady, IsReady, OpenRefusal, open_count, max_clients}
-use Rattle.pq_core.specs.declared.fault.OpenFault.{OpenFault}
-use Rattle.pq_core.specs.declared.fault.OpenFault.TheVariants.{TooManyClients}
+use Rattle.pq_core.specs.declared.values.fault.OpenFault.{OpenFault}
+use Rattle.pq_core.specs.declared.values.fault.OpenFault.TheVariants.{TooManyClients}
 
 -- `Told K V M` is the outbox of a client in the ledger of a store: the replies that were acknowledged
 -- as put

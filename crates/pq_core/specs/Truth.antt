@@ -7,10 +7,10 @@ use Rattle.pq_rules.specs.Turns.{Machine, over}
 use Rattle.pq_rules.specs.Value.{Means}
 use Rattle.pq_core.specs.Points.{Point}
 use Rattle.pq_core.specs.Replies.{ReplyView}
-use Rattle.pq_core.specs.declared.request.Want.{Want}
-use Rattle.pq_core.specs.declared.request.Want.TheVariants.{Demand}
-use Rattle.pq_core.specs.declared.outcome.Outcome.{Outcome}
-use Rattle.pq_core.specs.declared.outcome.Outcome.TheVariants.{Answered, Plain, Cancelled, Starved, Withdrawn}
+use Rattle.pq_core.specs.declared.values.request.Want.{Want}
+use Rattle.pq_core.specs.declared.values.request.Want.TheVariants.{Demand}
+use Rattle.pq_core.specs.declared.values.outcome.Outcome.{Outcome}
+use Rattle.pq_core.specs.declared.values.outcome.Outcome.TheVariants.{Answered, Plain, Cancelled, Starved, Withdrawn}
 
 -- `AnswersAt order machine at want answer` is that `want` is for a key, and `answer` that of the key
 -- at the sources of `at`

@@ -14,86 +14,52 @@
 //! holds of each ledger that is reached), `specs/Works` (work that is out), `specs/Starts` (how often
 //! a rule is started), `specs/Told` (the ledger of a store), `specs/Stores`, `specs/Accounts` (what a
 //! store knows of a client), `specs/Lanes`, `specs/Cores`.
-//! Modules: `ids`, `label` and `request` (what clients post), `stamp` (of a revision), `outcome` and
-//! `reply`, `fault` (why a call is refused), `moves` (what runs and releases come to), `outbox` (where
-//! replies go), `work` and `job` (a rule that is to be carried out, with a stamp and without), `store`
-//! (the store), `opening`, `accepting`, `editing`, `starting`, `running`, `withdrawing` and
-//! `collecting` (its calls), `turning` (edits that end every run),
-//! `prepared` (the text of a change, made before its edit), `run_state`,
-//! `run_step` and `run_end` (the state of a run, its step, its end), `account`
-//! and `in_accounts` (what it knows of an open client), `ready` (a reply on its way), `lane`, `cores`
-//! (the core), `serving` and `releasing` (its calls), `passing` (from the store to the lanes),
-//! `queue` (the requests that wait, clients in turn), `rising` (a map from rising numbers), `run`,
-//! `frames`, `confirming` and `entering` (how a run goes on), `closing` (of a ring of keys), `laws`
-//! (what each move keeps).
+//!
+//! Folders, each over those before it:
+//!
+//! - `values`: what calls take and answer.
+//! - `runs`: one run, and its step.
+//! - `store`: what a core knows of clients, requests and runs.
+//! - `steps`: the calls of a store for one run.
+//! - `calls`: the other calls of a store.
+//! - `lanes`: the lanes, and the core.
+//!
+//! `laws` has what each move keeps.
 #![tactic(auto)]
 
-mod accepting;
-mod account;
-mod closing;
-mod collecting;
-mod confirming;
-mod cores;
-mod editing;
-mod entering;
-mod fault;
-mod frames;
-mod ids;
-mod in_accounts;
-mod job;
-mod label;
-mod lane;
+mod calls;
+mod lanes;
 mod laws;
-mod limits;
-mod list_outbox;
-mod moves;
-mod opening;
-mod outbox;
-mod outcome;
-mod passing;
-mod prepared;
-mod queue;
-mod ready;
-mod releasing;
-mod reply;
-mod request;
-mod rising;
-mod run;
-mod run_end;
-mod run_state;
-mod run_step;
-mod running;
-mod serving;
-mod stamp;
-mod starting;
+mod runs;
+mod steps;
 mod store;
-mod turning;
-mod withdrawing;
-mod work;
+mod values;
 
-pub use cores::Core;
-pub use fault::{
-    AcceptFault, AcceptRefused, EditFault, EditRefused, GiveFault, GiveRefused, LookFault, Memory,
-    OpenFault, OpenRefused, WithdrawFault,
-};
-pub use ids::{ClientId, Number};
-pub use label::Label;
-pub use lane::{Lane, lane_is_kept};
+pub use calls::turning::is_turn;
+pub use lanes::cores::Core;
+pub use lanes::lane::{Lane, lane_is_kept};
+pub use lanes::list_outbox::ListOutbox;
+pub use lanes::outbox::{Outbox, PutFault, Taking};
 pub use laws::{
     closed_for_good, core_is_sound, moves_keep, runs_hold_their_keys, starts_are_counted,
     store_counts_starts, store_holds_keys, store_is_sound,
 };
-pub use limits::{MAX_CLIENTS, TURN, WINDOW};
-pub use list_outbox::ListOutbox;
-pub use moves::{Move, Released};
-pub use outbox::{Outbox, PutFault, Taking};
-pub use outcome::Outcome;
 pub use pq_claims::RunId;
-pub use prepared::Prepared;
-pub use ready::{Ready, ready_is_right};
-pub use reply::Reply;
-pub use request::{Body, Change, Request, Want, copy_change, copy_request, is_same_request};
-pub use stamp::{PlainStamp, Stamp};
-pub use store::Store;
-pub use turning::is_turn;
-pub use work::{Done, Work};
+pub use runs::work::{Done, Work};
+pub use store::store::Store;
+pub use values::fault::{
+    AcceptFault, AcceptRefused, EditFault, EditRefused, GiveFault, GiveRefused, LookFault, Memory,
+    OpenFault, OpenRefused, WithdrawFault,
+};
+pub use values::ids::{ClientId, Number};
+pub use values::label::Label;
+pub use values::limits::{MAX_CLIENTS, TURN, WINDOW};
+pub use values::moves::{Move, Released};
+pub use values::outcome::Outcome;
+pub use values::prepared::Prepared;
+pub use values::ready::{Ready, ready_is_right};
+pub use values::reply::Reply;
+pub use values::request::{
+    Body, Change, Request, Want, copy_change, copy_request, is_same_request,
+};
+pub use values::stamp::{PlainStamp, Stamp};

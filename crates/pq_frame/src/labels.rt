@@ -45,8 +45,11 @@ fn integer_label_of(number: &Number) -> Option<Label>
 ///
 /// `Memory` where an allocation fails.
 pub fn label_of(alloc: Global, id: Option<&Value>) -> Result<Label, Memory>
+    // The label is the integer of 64 bits or the string that `id` is; without such an `id` it is
+    // `None`.
     ensures value { IfOk result
         (λ label. label_model label ≡ label_of_id (option_map (λ d. view d.now) id.entry)) }
+    // `HasOneForm`: A number of the label is `Negative` only below 0.
     ensures one_form { IfOk result HasOneForm }
 {
     match id {
@@ -59,6 +62,7 @@ pub fn label_of(alloc: Global, id: Option<&Value>) -> Result<Label, Memory>
 /// A law of labels: `==` of labels in their one form is equality of their models. `Message::read`
 /// makes labels in this form alone.
 pub fn equal_labels(first: &Label, second: &Label) -> bool
+    // `==` of request ids that were read holds exactly if they are the same id.
     ensures exact { HasOneForm first.now → HasOneForm second.now
         → (IsTrue result ↔ (label_model first.now ≡ label_model second.now)) }
 {

@@ -25,4 +25,4 @@ pub use messages::Message;
 pub use reader::FrameReader;
 /// An allocation failed.
 pub use std::alloc::AllocError as Memory;
-pub use write::{frame, frame_header};
+pub use write::{append_frame, frame, frame_header};

@@ -50,6 +50,8 @@ impl Message {
     /// counts. The only error is `Memory`, after an allocation failure. `params` is moved out of
     /// the JSON value, not copied.
     pub fn read(alloc: Global, body: &[u8]) -> Result<Message, Memory>
+        // `message`, `labelled`, `one_form`: The body is classified as JSON-RPC 2.0 prescribes, for
+        // JSON as `serde_json` parses it.
         ensures message { IfOk result
             (λ m. (json : Option Data) × IsJson body.now json × (message_model m ≡ message_of json)) }
         ensures labelled { IfOk result (λ m. IsLabelled (message_model m)) }

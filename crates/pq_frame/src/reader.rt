@@ -46,6 +46,7 @@ ghost use Rattle.pq_frame.specs.Bodies.{bodies_of, answer_of};
 impl FrameReader {
     /// A reader at the start of a stream. It allocates nothing until it is fed.
     pub fn new(alloc: Global) -> FrameReader
+        // A new reader keeps no byte and met no error.
         ensures { result ≡ Reading [] }
     {
         FrameReader {
@@ -111,6 +112,7 @@ impl FrameReader {
 
     /// Whether the stream may end here: the reader keeps no bytes and met no error.
     pub fn at_rest(&self) -> bool
+        // True exactly if no byte of an unfinished frame is kept.
         ensures { IsTrue result ↔ (self.now ≡ Reading []) }
     {
         self.fault.is_none() && self.header.is_empty()
@@ -124,6 +126,8 @@ impl FrameReader {
     /// for an empty piece. Every later call returns the same error. `Memory` is an allocation
     /// failure: the piece was not taken, and the reader is as it was.
     pub fn feed(&mut self, piece: &[u8]) -> Result<Vec<Vec<u8>>, FrameFault>
+        // The bodies that are complete with this piece, and the error if one comes next. Errors
+        // other than `Memory` are final; after `Memory` the reader is as it was.
         ensures { Feeds self.old piece.now (answer_of result) self.new }
     {
         if let Some(fault) = self.fault {

@@ -1,5 +1,5 @@
 //! Writes a frame.
-ghost use Rattle.std.specs.Prelude.{◌≡◌, length, string_bytes, IfOk};
+ghost use Rattle.std.specs.Prelude.{◌≡◌, ◌++◌, length, string_bytes, IfOk, OnOk, OnErr};
 ghost use Rattle.pq_frame.specs.Written.{written, header_text};
 
 use crate::Memory;
@@ -9,6 +9,7 @@ use std::alloc::Global;
 /// after it, it is the frame of that body: see `frame`. The only error is `Memory`, after an
 /// allocation failure.
 pub fn frame_header(alloc: Global, len: usize) -> Result<String, Memory>
+    // The header part of a body of a given length in bytes.
     ensures { IfOk result (λ text. string_bytes text ≡ header_text len) }
 {
     format!(in alloc; "Content-Length: {len}\r\n\r\n")
@@ -22,6 +23,7 @@ pub fn frame_header(alloc: Global, len: usize) -> Result<String, Memory>
 /// allocation failure.
 #[tactic(auto, unfolding(crate::specs::Written::written))]
 pub fn frame(alloc: Global, body: &[u8]) -> Result<Vec<u8>, Memory>
+    // The frame of a body, which is its header part and the body.
     ensures { IfOk result (λ bytes. bytes.items ≡ written body.now) }
 {
     let header = frame_header(alloc, body.len())?;
@@ -29,4 +31,25 @@ pub fn frame(alloc: Global, body: &[u8]) -> Result<Vec<u8>, Memory>
     bytes.extend_from_slice(header.as_bytes())?;
     bytes.extend_from_slice(body)?;
     Ok(bytes)
+}
+
+/// Appends the frame of `body` to `bytes`. The only error is `Memory`, after an allocation failure;
+/// then nothing was appended.
+#[tactic(auto, unfolding(crate::specs::Written::written))]
+pub fn append_frame(alloc: Global, bytes: &mut Vec<u8>, body: &[u8]) -> Result<(), Memory>
+    // The frame of `body` is appended.
+    ensures appended { OnOk result (bytes.new.items ≡ bytes.old.items ++ written body.now) }
+    // A refusal appends nothing.
+    ensures refused { OnErr result (bytes.new.items ≡ bytes.old.items) }
+{
+    let header = frame_header(alloc, body.len())?;
+    let before = bytes.len();
+    bytes.extend_from_slice(header.as_bytes())?;
+    match bytes.extend_from_slice(body) {
+        Ok(()) => Ok(()),
+        Err(_) => {
+            bytes.truncate(before);
+            Err(Memory)
+        }
+    }
 }

@@ -20,11 +20,15 @@ use Rattle.std.specs.declared.cmp.PartialOrd as partial
 use Rattle.std.specs.declared.sync.Wait as wait
 use Rattle.pq_rules.specs.declared.rules.Rules as rules
 use Rattle.pq_core.proofs.Crosses.{store_send}
+use Rattle.pq_core.specs.contracts.runs.job.Job as job
+use Rattle.pq_core.specs.contracts.runs.work.Work as work
+use Rattle.pq_core.specs.contracts.values.ready.Ready as ready
 use Rattle.pq_hall.specs.contracts.state.State as state
+use Rattle.pq_hall.specs.contracts.working.Turn as turn
 use Rattle.pq_hall.specs.contracts.mark.MarkStamp.TheImpl as stamps
 use Rattle.pq_hall.specs.contracts.hall.Hall as hall
 use Rattle.pq_hall.specs.contracts.seats.Seat as seat
-use Rattle.pq_core.proofs.lane.Lane.TheSendSync as lanes
+use Rattle.pq_core.proofs.lanes.lane.Lane.TheSendSync as lanes
 use Rattle.pq_mail.proofs.outboxes.LaneEnd.TheSendSync as ends
 
 inputs_send : IsSend inputs.the_row
@@ -47,8 +51,24 @@ mark_send J b j = search (marks.the_send, sendable, crosses) depth 40
 
 module _ (R J K V P : RattleType) (rs : rules.Ghosts R.Denot K.Denot V.Denot P.Denot) (o : ord.Ghosts K.Denot) (e : eq.Ghosts K.Denot)
     (p : partial.Ghosts K.Denot) (ev : eq.Ghosts V.Denot) (b : name.Ghosts J.Denot) (d : Dict) where
+  job_send : IsSend R → IsSend K → IsSync K → IsSend V → IsSync V → IsSend P → IsSend (job.the_row R K V P rs o e p ev)
+  job_send r k ky v vy q = let a = inputs_send in let y = inputs_sync in search (sendable, crosses) depth 40 fits 20000
+
+  work_send : IsSend R → IsSend J → IsSend K → IsSync K → IsSend V → IsSync V → IsSend P → IsSend (work.the_row R (mark.the_row J b) K V P rs o e p ev (stamps.ghosts J b d))
+  work_send r j k ky v vy q = let m = mark_send J b j in let w = job_send r k ky v vy q in search (sendable, crosses) depth 40
+
+  ready_send : IsSend R → IsSend J → IsSend K → IsSync K → IsSend V → IsSync V → IsSend (ready.the_row R (mark.the_row J b) K V P rs o e p ev (stamps.ghosts J b d))
+  ready_send r j k ky v vy = let m = mark_send J b j in search (sendable, crosses) depth 40 fits 20000
+
+  turn_send : IsSend R → IsSend J → IsSend K → IsSync K → IsSend V → IsSync V → IsSend P → IsSend (turn.the_row R J K V P rs o e p ev b)
+  turn_send r j k ky v vy q = let w = work_send r j k ky v vy q in let y = ready_send r j k ky v vy in search (sendable, crosses) depth 40
+
   state_send : IsSend R → IsSend J → IsSend K → IsSync K → IsSend V → IsSync V → IsSend P → IsSend (state.the_row R J K V P rs o e p ev b)
-  state_send r j k ky v vy q = let m = mark_send J b j in let s = store_send R (mark.the_row J b) K V P rs o e p ev (stamps.ghosts J b d) r m k ky v vy q in search (sendable, crosses) depth 40
+  state_send r j k ky v vy q =
+      let m = mark_send J b j in
+      let s = store_send R (mark.the_row J b) K V P rs o e p ev (stamps.ghosts J b d) r m k ky v vy q in
+      let t = turn_send r j k ky v vy q in
+      search (sendable, crosses) depth 40
 
   module _ (H : RattleType) (c : clone.Ghosts R.Denot) (ke : full.Ghosts K.Denot) (ve : full.Ghosts V.Denot) (w : wait.Ghosts H.Denot) where
     seat_send : IsSend R → IsSend J → IsSend H → IsSend K → IsSync K → IsSend V → IsSync V → IsSend P → IsSend (seat.the_row R J H K V P rs c o ke e p ve ev b w)

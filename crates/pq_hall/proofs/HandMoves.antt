@@ -11,13 +11,13 @@ use Rattle.pq_core.specs.Ledger.{Ledger}
 use Rattle.pq_core.specs.Moves.{Looks, Gives}
 use Rattle.pq_core.specs.Told.{Told}
 use Rattle.pq_core.specs.Stores.{StoreView, StandsFor, Goes, HandsOut, HasCause, NamesHolder}
-use Rattle.pq_core.specs.declared.moves.Move.{Move}
-use Rattle.pq_core.specs.declared.moves.Move.TheVariants.{Carry, Blocked, Stepped, Answered, Stopped}
-use Rattle.pq_core.specs.declared.fault.LookFault.{LookFault}
-use Rattle.pq_core.specs.declared.fault.LookFault.TheVariants.{Memory as LookMemory}
-use Rattle.pq_core.specs.declared.fault.GiveFault.{GiveFault}
-use Rattle.pq_core.specs.declared.fault.GiveFault.TheVariants.{NotThisRun, Memory as GiveMemory}
-use Rattle.pq_core.specs.declared.fault.GiveRefused.{GiveRefused}
+use Rattle.pq_core.specs.declared.values.moves.Move.{Move}
+use Rattle.pq_core.specs.declared.values.moves.Move.TheVariants.{Carry, Blocked, Stepped, Answered, Stopped}
+use Rattle.pq_core.specs.declared.values.fault.LookFault.{LookFault}
+use Rattle.pq_core.specs.declared.values.fault.LookFault.TheVariants.{Memory as LookMemory}
+use Rattle.pq_core.specs.declared.values.fault.GiveFault.{GiveFault}
+use Rattle.pq_core.specs.declared.values.fault.GiveFault.TheVariants.{NotThisRun, Memory as GiveMemory}
+use Rattle.pq_core.specs.declared.values.fault.GiveRefused.{GiveRefused}
 use Rattle.pq_hall.specs.declared.running.Hand.{Hand}
 use Rattle.pq_hall.specs.declared.running.Hand.TheVariants.{Look, Made, Unmade}
 use Rattle.pq_hall.specs.declared.running.Next.{Next}

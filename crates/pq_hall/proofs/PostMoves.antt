@@ -9,11 +9,11 @@ use Rattle.pq_core.specs.Moves.{Accepts, Edits, Withdraws}
 use Rattle.pq_core.specs.Told.{told_puts}
 use Rattle.pq_core.specs.Starts.{IsCountedIn, Log}
 use Rattle.pq_core.specs.Stores.{StoreView, Goes}
-use Rattle.pq_core.specs.declared.request.Request.{Request}
-use Rattle.pq_core.specs.declared.fault.AcceptRefused.{AcceptRefused}
-use Rattle.pq_core.specs.declared.fault.EditRefused.{EditRefused}
-use Rattle.pq_core.specs.declared.fault.WithdrawFault.{WithdrawFault}
-use Rattle.pq_core.specs.declared.label.Label.{Label}
+use Rattle.pq_core.specs.declared.values.request.Request.{Request}
+use Rattle.pq_core.specs.declared.values.fault.AcceptRefused.{AcceptRefused}
+use Rattle.pq_core.specs.declared.values.fault.EditRefused.{EditRefused}
+use Rattle.pq_core.specs.declared.values.fault.WithdrawFault.{WithdrawFault}
+use Rattle.pq_core.specs.declared.values.label.Label.{Label}
 use Rattle.pq_mail.specs.declared.post.Post.{Post}
 use Rattle.pq_mail.specs.declared.post.Post.TheVariants.{Ask, Edit, Withdraw, End}
 use Rattle.pq_hall.specs.declared.fault.HallFault.{HallFault}

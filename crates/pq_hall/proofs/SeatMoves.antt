@@ -5,8 +5,8 @@ use Rattle.pq_core.proofs.Trays.{shifted}
 use Rattle.pq_core.specs.Replies.{ReplyView}
 use Rattle.pq_core.specs.Moves.{window}
 use Rattle.pq_core.specs.Lanes.{HasNext, TrayKept}
-use Rattle.pq_core.specs.declared.moves.Released.{Released}
-use Rattle.pq_core.specs.declared.moves.Released.TheVariants.{Put, Full, Gone, Nothing}
+use Rattle.pq_core.specs.declared.values.moves.Released.{Released}
+use Rattle.pq_core.specs.declared.values.moves.Released.TheVariants.{Put, Full, Gone, Nothing}
 use Rattle.pq_mail.specs.Mailbox.{Side}
 use Rattle.pq_hall.specs.Sending.{LaneView, LetsOut, IsLast, PutsNext, Empties}
 use Rattle.pq_hall.specs.aux.Vacant.{VacantFrom}

@@ -1,8 +1,8 @@
 -- What was carried of an inbox.
 use Rattle.std.specs.Prelude.{◌≡◌, ◌⊎◌, List, [], ◌∷◌, ◌++◌}
 use Rattle.pq_core.specs.Changes.{ChangeView}
-use Rattle.pq_core.specs.declared.label.Label.{Label}
-use Rattle.pq_core.specs.declared.request.Request.{Request}
+use Rattle.pq_core.specs.declared.values.label.Label.{Label}
+use Rattle.pq_core.specs.declared.values.request.Request.{Request}
 use Rattle.pq_mail.specs.declared.post.Post.{Post}
 use Rattle.pq_mail.specs.declared.post.Post.TheVariants.{Ask, Edit, Withdraw, End}
 use Rattle.pq_hall.specs.declared.posting.Moved.{Moved}

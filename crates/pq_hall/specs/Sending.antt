@@ -3,8 +3,8 @@
 use Rattle.std.specs.Prelude.{ℕ, ◌≡◌, ◌≢◌, ◌⊎◌, zero, suc, Option, Some, None}
 use Rattle.pq_core.specs.Replies.{ReplyView}
 use Rattle.pq_core.specs.Lanes.{ReadyView, Tray, HasPlace, LetsOutOf, placed_in}
-use Rattle.pq_core.specs.declared.moves.Released.{Released}
-use Rattle.pq_core.specs.declared.moves.Released.TheVariants.{Put as ReleasedPut, Full, Gone as ReleasedGone, Nothing as ReleasedNothing}
+use Rattle.pq_core.specs.declared.values.moves.Released.{Released}
+use Rattle.pq_core.specs.declared.values.moves.Released.TheVariants.{Put as ReleasedPut, Full, Gone as ReleasedGone, Nothing as ReleasedNothing}
 use Rattle.pq_mail.specs.Mailbox.{Side, HasNoRoom, no_items}
 use Rattle.pq_hall.specs.declared.seats.Sent.{Sent}
 use Rattle.pq_hall.specs.declared.seats.Sent.TheVariants.{Nothing, Put, Gone}

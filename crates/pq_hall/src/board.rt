@@ -47,7 +47,9 @@ impl NewBoard {
         rt: &impl Wait,
         inputs: &Inputs,
     ) -> Result<(Board<J>, Mark<J>), Memory>
+        // The vector is the one that `J` names.
         requires { self ≡ J.vector }
+        // The first mark is of the last revision of the inputs, and of the sources then.
         ensures { IfOk result (λ r. r.1.point ≡ point_now inputs.now) }
     {
         let NewBoard { entries } = self;
@@ -105,6 +107,8 @@ impl<J: BoardName> Board<J> {
     ///
     /// `Memory`. Then no entry was added.
     pub fn push(&self, rt: &impl Wait, inputs: &Inputs, change: &Change) -> Result<Mark<J>, Memory>
+        // The mark is of the revision and the sources that the change makes, below the last
+        // revision: the condition of `Core::edit`.
         ensures { inputs.now.revision < last_revision → IfOk result (λ mark. mark.point ≡ point_now (changed inputs.now change.now)) }
     {
         self.add(rt, Entry::after(inputs, change))
@@ -112,6 +116,7 @@ impl<J: BoardName> Board<J> {
 
     /// A law: two marks of one index name the same revision and the same sources.
     pub fn agrees(&self, a: &Mark<J>, b: &Mark<J>)
+        // Two marks of one vector and one index name the same revision and the same sources.
         ensures { a.now.index ≡ b.now.index → a.now.point ≡ b.now.point }
     {
         if a.index() == b.index() {
@@ -121,6 +126,8 @@ impl<J: BoardName> Board<J> {
 
     /// Whether two marks are of one entry. Then they name the same revision and the same sources.
     pub fn is_same(&self, a: &Mark<J>, b: &Mark<J>) -> bool
+        // `index`, `agrees`: Exactly if the two marks are of one index, and then they name the
+        // same.
         ensures index { IsTrue result ↔ (a.now.index ≡ b.now.index) }
         ensures agrees { IsTrue result → a.now.point ≡ b.now.point }
     {
@@ -132,7 +139,10 @@ impl<J: BoardName> Board<J> {
     /// past the last one, or before the one at the start. The time is logarithmic in the count of
     /// entries.
     pub fn mark(&self, revision: Revision, last: &Mark<J>) -> Option<Mark<J>>
+        // A mark that is answered is of the revision that was asked for.
         ensures revision { IfSome result (λ mark. mark.point.revision ≡ revision) }
+        // `last`, `past`: Of the last revision it is the mark that was handed in; of a later one
+        // there is none.
         ensures last { revision ≡ last.now.point.revision → result ≡ Some last.now }
         ensures past { last.now.point.revision < revision → result ≡ None }
     {

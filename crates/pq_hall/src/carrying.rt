@@ -13,6 +13,7 @@ use crate::one_value::OneValue;
 use crate::posting::{Moved, post_step};
 use crate::preparing::long_change;
 use crate::state::{Client, Collected, State};
+use crate::working::Ahead;
 use pq_core::{Memory, Want, is_turn};
 use pq_inputs::Inputs;
 use pq_mail::{PorterEnd, Post};
@@ -53,8 +54,16 @@ fn wants_answer<K>(post: &Post<K>) -> bool {
     }
 }
 
-/// What a post came to under the lock, and what is to go to the lane of its client.
-pub(crate) type Carried<R, J> = (Moved<<R as Rules>::Key>, Collected<R, J>);
+/// What is to be done without the lock after a post: a reply to the client of the post is to go to its
+/// lane, and what the first steps of a run came to.
+#[derive(Drop)]
+pub(crate) struct After<R: Rules, J: BoardName> {
+    collected: Collected<R, J>,
+    ahead: Ahead<R, J>,
+}
+
+/// What a post came to under the lock, and what is to be done after it.
+pub(crate) type Carried<R, J> = (Moved<<R as Rules>::Key>, After<R, J>);
 
 impl<R: Rules + OneValue, J: BoardName, H: Wait + Copy + Drop> Hall<R, J, H> {
     /// Carries the next post of `client` into the store. It waits for a post, and for room in the
@@ -72,15 +81,19 @@ impl<R: Rules + OneValue, J: BoardName, H: Wait + Copy + Drop> Hall<R, J, H> {
         client: Client,
         porter: &mut PorterEnd<R::Key>,
     ) -> Result<Moved<R::Key>, HallFault>
+        // `Carries`: One post more was carried, of the kind of the answer; at the end of the posts
+        // perhaps none. `Later` is not answered.
         ensures carried { IfOk result (λ moved. Carries moved porter.old.items porter.new.items) }
+        // `CarriesSome`: One post more was carried.
         ensures refused { IfErr result (λ fault. CarriesSome porter.old.items porter.new.items) }
+        // An end stays one of its mailbox.
         ensures same { (porter.new.table ≡ porter.old.table) × (porter.new.key ≡ porter.old.key) }
     {
         match porter.next(rt) {
             None => return Ok(Moved::Ended),
             Some(post) => match self.carry_post(rt, client, post) {
-                Ok((moved, collected)) => {
-                    self.deliver_all(rt, client, collected);
+                Ok((moved, after)) => {
+                    self.follow_up(rt, client, after);
                     if has_turned(&moved) {
                         self.deliver_each(rt);
                     }
@@ -92,6 +105,25 @@ impl<R: Rules + OneValue, J: BoardName, H: Wait + Copy + Drop> Hall<R, J, H> {
                 }
             },
         }
+    }
+
+    /// Waits until each reply to `client` was put, and closes it. So the end that takes the replies has
+    /// an end. It waits for nothing where the hall is shut.
+    pub fn finish(&self, rt: &H, client: Client) {
+        self.wait_for_replies(rt, client);
+        self.close(rt, client);
+    }
+
+    /// Waits until each reply to `client` was put, while `client` is open.
+    fn wait_for_replies(&self, rt: &H, client: Client) {
+        let mut state = self.state.lock(rt);
+        for _ in rt.forever() {
+            if state.is_shut || !state.store.owes(client.id()) {
+                return;
+            }
+            state = self.room_came.wait(rt, state);
+        }
+        unreachable!()
     }
 
     /// Carries `post`. The text of a long list of changes is made before the lock is taken.
@@ -117,10 +149,11 @@ impl<R: Rules + OneValue, J: BoardName, H: Wait + Copy + Drop> Hall<R, J, H> {
         let mut post = post;
         let mut state = self.state.lock(rt);
         for _ in rt.forever() {
+            let ahead = self.may_run_ahead(&state, &post);
             match settled(self.step(rt, &mut state, client, post)?) {
                 Ok(moved) => {
-                    let collected = self.carried(&mut state, client, wants);
-                    return Ok((moved, collected));
+                    let after = self.carried(&mut state, client, wants, ahead);
+                    return Ok((moved, after));
                 }
                 Err(back) => post = back,
             }
@@ -149,18 +182,59 @@ impl<R: Rules + OneValue, J: BoardName, H: Wait + Copy + Drop> Hall<R, J, H> {
     }
 
     /// Wakes the workers that can go on after a post was carried, and collects a reply to `client`.
-    /// After a request whose answer is wanted, `wants`, one worker can start its run.
+    /// After a request whose answer is wanted, `wants`, one worker can start its run; or its first steps are
+    /// taken, `ahead`.
     pub(crate) fn carried(
         &self,
         state: &mut State<R, J>,
         client: Client,
         wants: bool,
-    ) -> Collected<R, J> {
+        ahead: bool,
+    ) -> After<R, J> {
         self.wake_parked(state);
-        if wants {
-            self.work_came.notify_one();
+        let ahead = self.ahead(state, wants, ahead);
+        let collected = state.collect(client);
+        After { collected, ahead }
+    }
+
+    /// Whether the porter takes the first steps of the run for `post`: no other request waits, and a worker
+    /// waits or the answer is there. So a run that needs a worker is not started before one can go on.
+    fn may_run_ahead(&self, state: &State<R, J>, post: &Post<R::Key>) -> bool {
+        if state.store.has_waiting() {
+            return false;
         }
-        state.collect(client)
+        if state.idle > 0 {
+            return true;
+        }
+        match post {
+            Post::Ask(request) => match &request.want {
+                Want::Demand(key) => state.store.has_answer(self.alloc, key),
+                Want::Fixed(_) => false,
+            },
+            _ => false,
+        }
+    }
+
+    /// Takes the first steps of a run, if `wants` and `ahead`.
+    fn ahead(&self, state: &mut State<R, J>, wants: bool, ahead: bool) -> Ahead<R, J> {
+        if !wants {
+            return Ahead::Nothing;
+        }
+        if ahead {
+            return self.run_ahead(state);
+        }
+        Ahead::Wake
+    }
+
+    /// Does what is to be done after a post of `client`, under no lock.
+    fn follow_up(&self, rt: &H, client: Client, after: After<R, J>) {
+        let After { collected, ahead } = after;
+        match ahead {
+            Ahead::Reply(other, first) => self.deliver_all(rt, other, first),
+            Ahead::Nothing => {}
+            Ahead::Wake => self.work_came.notify_one(),
+        }
+        self.deliver_all(rt, client, collected);
     }
 
     /// The mark of the revision that `post` makes of `inputs`, if it is an edit.

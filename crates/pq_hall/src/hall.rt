@@ -39,6 +39,7 @@ impl<R: Rules + OneValue, J: BoardName, H: Wait + Copy + Drop> Hall<R, J, H> {
         board: NewBoard,
         inputs: Inputs,
     ) -> Result<Hall<R, J, H>, Memory>
+        // The vector is the one that `J` names.
         requires { board ≡ J.vector }
     {
         let (board, mark) = board.named::<J>(rt, &inputs)?;
@@ -59,6 +60,7 @@ impl<R: Rules + OneValue, J: BoardName, H: Wait + Copy + Drop> Hall<R, J, H> {
     /// The mark of `revision`. `None` where it is past the last revision or before the one at the
     /// start.
     pub fn mark(&self, rt: &H, revision: Revision) -> Option<Mark<J>>
+        // A mark that is answered is of the revision that was asked for.
         ensures { IfSome result (λ mark. mark.point.revision ≡ revision) }
     {
         let last = self.state.lock(rt).store.stamp().copy();
@@ -185,10 +187,15 @@ impl<R: Rules + OneValue, J: BoardName, H: Wait + Copy + Drop> Hall<R, J, H> {
         send_in(&mut seat, client.id, ready)
     }
 
-    /// Tells the store what was put.
+    /// Tells the store what was put. Porters that wait for room are woken when the lock is free.
     fn acknowledge(&self, rt: &H, seen: Acknowledgement) {
+        self.tell(rt, seen);
+        self.room_came.notify_all();
+    }
+
+    /// Tells the store what was put.
+    fn tell(&self, rt: &H, seen: Acknowledgement) {
         let mut state = self.state.lock(rt);
         seen.tell(&mut state.store);
-        self.room_came.notify_all();
     }
 }

@@ -32,9 +32,11 @@ impl<R: Rules + OneValue, J: BoardName, H: Wait + Copy + Drop> Hall<R, J, H> {
     /// `TooManyClients` where `MAX_CLIENTS` clients are open or their numbers are used up, and
     /// `Memory`. No client is open more than before.
     pub fn join_client(&self, rt: &H) -> Result<ClientEnds<R, J>, OpenFault>
+        // `posts`, `carried`, `taken`: Nothing was posted, carried or taken yet.
         ensures posts { IfOk result (λ ends. ends.post.items ≡ []) }
         ensures carried { IfOk result (λ ends. ends.porter.items ≡ []) }
         ensures taken { IfOk result (λ ends. ends.take.items ≡ []) }
+        // The end that posts and the end that carries are of one inbox.
         ensures same { IfOk result (λ ends. (ends.post.table ≡ ends.porter.table) × (ends.post.key ≡ ends.porter.key)) }
     {
         let Ok((post, porter)) = inbox(self.alloc, self.rules) else {

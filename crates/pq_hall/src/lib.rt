@@ -2,11 +2,11 @@
 //!
 //! A hall has the store behind one lock and the lane of each open client behind its own. Porters
 //! carry posts into the store (`carry_one`), workers take the steps of runs and carry their work out
-//! (`work`), and writers take replies (`take_one`). What a post and what a worker do to the store are
-//! functions without a handle, `post_step` and `run_step`: each is one call of the store, answers as
-//! that call, and waits for nobody. `prepared_step` is `post_step` of an edit whose text was made before,
-//! under no lock. `docs/ARCHITECTURE.md`, "Threads and locks", says who takes which
-//! lock, and what is never done while it is held.
+//! (`work`), and writers take replies (`take_one`; or many from their end, and then `refill`). What a
+//! post and what a worker do to the store are functions without a handle, `post_step` and `run_step`:
+//! each is one call of the store, answers as that call, and waits for nobody. `prepared_step` is
+//! `post_step` of an edit whose text was made before, under no lock. `docs/ARCHITECTURE.md`, "Threads
+//! and locks", says who takes which lock, and what is never done while it is held.
 //!
 //! A mark is an entry of one vector that only grows, which threads share without a lock. An entry is
 //! a revision and, for contracts alone, the sources at it. The first entry is that of the inputs at

@@ -68,6 +68,7 @@ impl<J: BoardName> Mark<J> {
 
     /// The index of the entry in the vector.
     pub fn index(&self) -> usize
+        // The index of the entry.
         ensures { result ≡ self.now.index }
     {
         self.token.index()
@@ -75,6 +76,7 @@ impl<J: BoardName> Mark<J> {
 
     /// The same mark once more. It takes no memory.
     pub fn copy(&self) -> Mark<J>
+        // An equal mark.
         ensures { result ≡ self.now }
     {
         Mark {
@@ -91,6 +93,7 @@ impl<J: BoardName> Stamp for Mark<J> {
     ghost point = { λ m. m.point };
 
     fn revision(&self) -> Revision
+        // The revision of the mark.
         ensures revision { result ≡ self.now.point.revision }
     {
         self.revision
@@ -98,6 +101,7 @@ impl<J: BoardName> Stamp for Mark<J> {
 
     /// It takes no memory, and answers `Ok`.
     fn again(&self) -> Result<Mark<J>, Memory>
+        // An equal mark.
         ensures again { IfOk result (λ stamp. stamp ≡ self.now) }
     {
         Ok(self.copy())

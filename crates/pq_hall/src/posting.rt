@@ -52,12 +52,24 @@ pub fn post_step<R: Rules, M: Stamp>(
     post: Post<R::Key>,
     stamp: Option<M>,
 ) -> Result<Moved<R::Key>, HallFault>
+    // `IsStampFor`: An edit comes with a stamp. It is of the next revision and the sources after
+    // the change; at the last revision, where each edit is refused, it may be any stamp.
     requires { IsStampFor M.point store.old.inputs post stamp }
+    // The rules stay.
     ensures rules { store.new.rules ≡ store.old.rules }
+    // The inputs are changed by an edit that made a revision, and by nothing else.
     ensures inputs { store.new.inputs ≡ inputs_posted store.old.inputs post result }
+    // The table of memos is the same.
     ensures places { store.new.places ≡ store.old.places }
+    // `IsAnswerTo`: What is answered is of the kind of the post; `Later` hands the post back.
     ensures answer { IfOk result (λ moved. IsAnswerTo post moved) }
+    // `Posts`: It is the call of the post: `accept` of a request, `edit` of an edit, `withdraw` of
+    // a withdrawal, none at the end of the posts. The answer is that of the call: `Edited(r)` where
+    // the edit made the revision r, `Later` with the request where the window is full, `Withdrawn`
+    // with whether a request was withdrawn.
     ensures moved { Goes R.Key.cmp (R.machine store.old.rules) M.point store.old store.new (Posts client post result) }
+    // A log of starts and lost keys that was counted is counted after the call. A withdrawal adds
+    // the keys that its runs held to those lost, and no other post adds to the log.
     ensures counted { (log : Log R.Key) → IsCountedIn R.Key.cmp (R.machine store.old.rules) store.old log → IsCountedIn R.Key.cmp (R.machine store.old.rules) store.new (log_posted store.old client post result log) }
 {
     match post {
@@ -92,13 +104,21 @@ pub fn prepared_step<R: Rules, M: Stamp>(
     prepared: Prepared,
     stamp: M,
 ) -> (Result<Moved<R::Key>, HallFault>, Body)
+    // The file has the text from which the change was prepared.
     requires current { (file_in store.old.inputs.files prepared.change.file).text ≡ prepared.before }
+    // The stamp that is handed in is of the next revision and the sources after the change. At the
+    // last revision, where each edit is refused, it may be any stamp.
     requires stamp { store.old.inputs.revision < last_revision → M.point stamp ≡ point_now (changed store.old.inputs prepared.change) }
+    // The rules stay.
     ensures rules { store.new.rules ≡ store.old.rules }
+    // `inputs`, `answer`, `moved`, `counted`: What `post_step` says, of an edit whose text was
+    // prepared: it is the call `edit_prepared`.
     ensures inputs { let post : Post R.Key = Edit prepared.change in
         store.new.inputs ≡ inputs_posted store.old.inputs post result.0 }
+    // The table of memos is the same.
     ensures places { store.new.places ≡ store.old.places }
     ensures answer { IfOk result.0 (λ moved. IsEdited moved) }
+    // The body of the change comes back.
     ensures body { body_view result.1 ≡ prepared.change.body }
     ensures moved { let post : Post R.Key = Edit prepared.change in
         Goes R.Key.cmp (R.machine store.old.rules) M.point store.old store.new (Posts client post result.0) }

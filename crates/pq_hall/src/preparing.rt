@@ -131,8 +131,8 @@ impl<R: Rules + OneValue, J: BoardName, H: Wait + Copy + Drop> Hall<R, J, H> {
         let (stepped, body) = self.step_prepared(rt, &mut state, client, prepared);
         match stepped {
             Ok(moved) => {
-                let collected = self.carried(&mut state, client, false);
-                return (Ok(Ok((moved, collected))), Some(body));
+                let after = self.carried(&mut state, client, false, false);
+                return (Ok(Ok((moved, after))), Some(body));
             }
             Err(fault) => return (Err(fault), Some(body)),
         }

@@ -48,14 +48,27 @@ pub fn run_step<R: Rules, J: BoardName>(
     run: RunId,
     hand: Hand<Work<R, Mark<J>>, Done<R, Mark<J>>>,
 ) -> Next<Work<R, Mark<J>>>
+    // `IsHandOf`: A result is of the rules of the store, and work that comes back is for the run.
     requires { IsHandOf store.old.rules run hand }
+    // `rules`, `inputs`: The rules and the inputs stay.
     ensures rules { store.new.rules ≡ store.old.rules }
     ensures inputs { store.new.inputs ≡ store.old.inputs }
+    // `Steps`: It is the call of what a worker brings: `look`, `give` or `starve`. `Starved`
+    // exactly where the run was starved: an allocation of the call failed, the work came back, or
+    // the result is of the revision now with another mark. `Over` leaves the ledger as it was.
     ensures moved { Goes R.Key.cmp (R.machine store.old.rules) (λ m. m.point) store.old store.new (Steps R.Key.cmp (R.machine store.old.rules) (λ m. m.point) store.old.rules run hand result) }
+    // `none_lost`, `cause`, `holder`: As `look` and `give` have them: no memo is lost, work that
+    // starts a rule names its cause, and a run that is blocked names the holder of the key that it
+    // waits for.
     ensures none_lost { KeepsMemos R.Key.cmp store.old store.new }
+    // Work that is handed out is of this run, of the rules of the store, at its revision and
+    // sources.
     ensures handed { OnMoved (HandsOut store.old run) result }
     ensures cause { OnMoved (HasCause R.Key.cmp (R.machine store.old.rules) store.old) result }
     ensures holder { OnMoved (NamesHolder store.new.claims run) result }
+    // `CountsStep`: A log of starts and lost keys that was counted is counted after the step, with
+    // what the move adds. A run that was starved adds the keys that it held in the store that the
+    // refused call left.
     ensures counted { (log : Log R.Key) → IsCountedIn R.Key.cmp (R.machine store.old.rules) store.old log → CountsStep R.Key.cmp (R.machine store.old.rules) (λ m. m.point) store.old store.new run hand result log }
 {
     match hand {

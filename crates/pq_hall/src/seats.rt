@@ -44,6 +44,7 @@ impl Acknowledgement {
         ensures rules { store.new.rules ≡ store.old.rules }
         ensures inputs { store.new.inputs ≡ store.old.inputs }
         ensures places { store.new.places ≡ store.old.places }
+        // The store hears the lane's client and its count of puts.
         ensures moved { (l : Ledger R.Key R.Value M (Told R.Key R.Value M)) → StandsFor R.Key.cmp (R.machine store.old.rules) M.point store.old l
             → Reaches (Hears store.old self.client self.below) l (StandsFor R.Key.cmp (R.machine store.old.rules) M.point store.new) }
         ensures counted { (log : Log R.Key) → IsCountedIn R.Key.cmp (R.machine store.old.rules) store.old log → IsCountedIn R.Key.cmp (R.machine store.old.rules) store.new log }
@@ -83,6 +84,7 @@ impl<R: Rules, J: BoardName, H: Wait + Drop> Seat<R, J, H> {
 
     /// Fills `ready` into the lane, if it is there. A reply for which the lane has no place is dropped.
     fn fill(&mut self, ready: Option<Ready<R, Mark<J>>>)
+        // `Filled`: The reply gets its place, or the lane has no place for it.
         ensures { Filled ready self.old.lane self.new.lane }
     {
         if let Some(ready) = ready {
@@ -94,6 +96,7 @@ impl<R: Rules, J: BoardName, H: Wait + Drop> Seat<R, J, H> {
     /// came to. The lane has replies in its first `left` places alone.
     fn release(&mut self, left: usize) -> Released
         requires { VacantFrom left self.old.lane }
+        // `Empties`: The next replies are put, until the outbox refuses one or none is next.
         ensures { Empties result self.old.lane self.new.lane }
     {
         if left == 0 {
@@ -110,7 +113,10 @@ impl<R: Rules, J: BoardName, H: Wait + Drop> Seat<R, J, H> {
     /// Fills `ready` into the lane, if it is there, and puts the next replies, until the outbox refuses
     /// one or none is next.
     fn send(&mut self, ready: Option<Ready<R, Mark<J>>>) -> Sent
+        // `Sends`: What `fill` and `release` do, and the result: that the end that takes is gone,
+        // or how far the lane has put.
         ensures sent { Sends ready result self.old.lane self.new.lane }
+        // No reply is next afterwards, unless the last release was refused.
         ensures rest { HasNext self.new.lane → self.new.lane.refused ≡ true }
     {
         let before = self.lane.put();
@@ -182,6 +188,8 @@ pub(crate) fn send_in<R: Rules, J: BoardName, H: Wait + Drop>(
     client: u64,
     ready: Option<Ready<R, Mark<J>>>,
 ) -> Sent
+    // `own`, `other`, `none`: The seat of the client sends; the seat of another client, or none,
+    // stays as it is.
     ensures own { IfSome seat.old (λ own. own.client ≡ client → (lane : LaneView R.Key R.Value (MarkView)) × (option_map (λ s. s.lane) seat.new ≡ Some lane) × Sends ready result own.lane lane) }
     ensures other { IfSome seat.old (λ own. own.client ≢ client → (result ≡ Nothing) × (seat.new ≡ seat.old)) }
     ensures none { IfNone seat.old ((result ≡ Nothing) × (seat.new ≡ seat.old)) }

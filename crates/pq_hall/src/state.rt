@@ -6,6 +6,7 @@ ghost use Rattle.pq_hall.specs.Marks.{MarkView};
 ghost use Rattle.pq_hall.specs.declared.state.Parked.{Parked};
 
 use crate::mark::{BoardName, Mark};
+use crate::working::Turn;
 use pq_core::{ClientId, MAX_CLIENTS, Memory, Ready, Store};
 use pq_rules::Rules;
 use std::alloc::Global;
@@ -21,6 +22,7 @@ pub struct Client {
 impl Client {
     /// The number of the client.
     pub fn id(&self) -> ClientId
+        // The number of the client.
         ensures { result ≡ self.now.id }
     {
         ClientId::new(self.id)
@@ -59,6 +61,10 @@ pub(crate) struct State<R: Rules, J: BoardName> {
     /// The client of each seat.
     seats: Vec<Option<u64>>,
     parked: VecDeque<Parked>,
+    /// What a porter has left to a worker.
+    pub(crate) left: Option<Turn<R, J>>,
+    /// How many workers wait for work.
+    pub(crate) idle: u64,
     /// The count of moves so far: it tells a parked run that something has changed.
     pub(crate) moves: u64,
     pub(crate) is_shut: bool,
@@ -75,6 +81,8 @@ impl<R: Rules, J: BoardName> State<R, J> {
             store,
             seats,
             parked: VecDeque::new(alloc),
+            left: None,
+            idle: 0,
             moves: 0,
             is_shut: false,
         })
@@ -128,6 +136,8 @@ impl<R: Rules, J: BoardName> State<R, J> {
 
     /// Collects a reply to `client`, if one is made.
     pub(crate) fn collect(&mut self, client: Client) -> Collected<R, J>
+        // `collects`, `more`: A reply to the client is collected, and `more` says whether one more
+        // is made.
         ensures collects { Collects client.id result.ready self.old.store self.new.store }
         ensures more { IsTrue result.more ↔ ((n : ℕ) × (ready : ReadyView R.Key R.Value (MarkView)) × IsMadeIn self.new.store client.id n ready) }
     {
@@ -152,7 +162,7 @@ impl<R: Rules, J: BoardName> State<R, J> {
     }
 
     /// Starts a run for a request that waits.
-    fn start(&mut self) -> Option<Task> {
+    pub(crate) fn start(&mut self) -> Option<Task> {
         let run = self.store.start()?;
         let (id, _) = self.store.request_of(run)?;
         let client = self.client_of(id.number());

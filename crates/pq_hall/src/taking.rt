@@ -24,12 +24,23 @@ impl<R: Rules + OneValue, J: BoardName, H: Wait + Copy + Drop> Hall<R, J, H> {
         take: &mut TakeEnd<R, Mark<J>>,
         receipt: &Receipt<R::Key>,
     ) -> Result<RightReply<R, Mark<J>>, MailEnd>
+        // One reply more was taken. Its number is the count of those taken before, and it is that
+        // of the receipt.
         ensures taken { IfOk result (λ reply. (take.new.items ≡ take.old.items ++ reply ∷ []) × (reply.number ≡ length take.old.items) × IsReceiptOf receipt.now reply) }
+        // `Ended` took nothing; `Stranger` took a reply that is not the receipt's.
         ensures missed { IfErr result (λ fault. Misses fault receipt.now take.old.items take.new.items) }
+        // An end stays one of its mailbox.
         ensures same { (take.new.table ≡ take.old.table) × (take.new.key ≡ take.old.key) }
     {
         let taken = take.next(rt, receipt);
         self.deliver(rt, client, None);
         taken
+    }
+
+    /// Puts those replies to `client` that have room, after some were taken. A writer that takes by
+    /// `TakeEnd::any` and `TakeEnd::try_any` calls it once in `CAPACITY` replies at least: a put is refused
+    /// only where so many are there.
+    pub fn refill(&self, rt: &H, client: Client) {
+        self.deliver(rt, client, None);
     }
 }

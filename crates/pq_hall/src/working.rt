@@ -23,19 +23,14 @@ const STEPS: u8 = 16;
 /// What a worker brings to its run.
 type Brought<R, J> = Hand<Work<R, Mark<J>>, Done<R, Mark<J>>>;
 
-/// Work, and its run.
-#[derive(Drop)]
-struct Errand<R: Rules, J: BoardName> {
-    task: Task,
-    work: Work<R, Mark<J>>,
-    ghost own: { work.done.run ≡ task.run },
-}
+/// The most steps of a run that a porter takes after a request, beside the first.
+const AHEAD: u8 = 3;
 
-/// What a worker leaves the store's lock with.
+/// What a worker leaves the store's lock with, or a porter that has taken the first steps of a run.
 #[derive(Drop)]
-enum Turn<R: Rules, J: BoardName> {
-    /// Work of a run.
-    Carry(Errand<R, J>),
+pub(crate) enum Turn<R: Rules, J: BoardName> {
+    /// Work, and the client of its run.
+    Carry(Client, Work<R, Mark<J>>),
     /// The run, which goes on.
     GoesOn(Task),
     /// What was collected for the client of a run that is over.
@@ -44,6 +39,17 @@ enum Turn<R: Rules, J: BoardName> {
     Free,
     /// The hall is shut.
     Shut,
+}
+
+/// What the first steps of a run came to that a porter took.
+#[derive(Drop)]
+pub(crate) enum Ahead<R: Rules, J: BoardName> {
+    /// What was collected for the client of a run that is over.
+    Reply(Client, Collected<R, J>),
+    /// Nothing that others wait for.
+    Nothing,
+    /// A worker is to go on.
+    Wake,
 }
 
 /// Takes one turn after the other, from `first` on, until there is none. A loop over a `Turn` would be
@@ -72,7 +78,7 @@ impl<R: Rules + OneValue, J: BoardName, H: Wait + Copy + Drop> Hall<R, J, H> {
     /// the hall is shut.
     fn follow<G: Gate<R>>(&self, rt: &H, gate: &G, turn: Turn<R, J>) -> Option<Turn<R, J>> {
         match turn {
-            Turn::Carry(errand) => return Some(self.carry_work(rt, gate, errand)),
+            Turn::Carry(client, work) => return Some(self.carry_work(rt, gate, client, work)),
             Turn::GoesOn(task) => return Some(self.go_on(rt, task, Hand::Look)),
             Turn::Reply(client, collected) => return Some(self.hand_over(rt, client, collected)),
             Turn::Free => return Some(self.begin(rt)),
@@ -87,9 +93,16 @@ impl<R: Rules + OneValue, J: BoardName, H: Wait + Copy + Drop> Hall<R, J, H> {
         self.begin(rt)
     }
 
-    /// Carries the work of `errand` out, and brings its run what that gives.
-    fn carry_work<G: Gate<R>>(&self, rt: &H, gate: &G, errand: Errand<R, J>) -> Turn<R, J> {
-        let Errand { task, work } = errand;
+    /// Carries out `work`, of a run of `client`, and brings the run what that gives.
+    fn carry_work<G: Gate<R>>(
+        &self,
+        rt: &H,
+        gate: &G,
+        client: Client,
+        work: Work<R, Mark<J>>,
+    ) -> Turn<R, J> {
+        let run = work.run().number();
+        let task = Task { run, client };
         gate.pass(&work);
         match work.carry_out(self.alloc) {
             Ok(done) => return self.go_on(rt, task, Hand::Made(done)),
@@ -104,10 +117,15 @@ impl<R: Rules + OneValue, J: BoardName, H: Wait + Copy + Drop> Hall<R, J, H> {
             if state.is_shut {
                 return Turn::Shut;
             }
+            if let Some(turn) = state.left.take() {
+                return turn;
+            }
             if let Some(task) = state.pick() {
                 return self.advance(&mut state, task, Hand::Look, STEPS);
             }
+            state.idle = state.idle.saturating_add(1);
             state = self.work_came.wait(rt, state);
+            state.idle = state.idle.saturating_sub(1);
         }
         unreachable!()
     }
@@ -136,7 +154,7 @@ impl<R: Rules + OneValue, J: BoardName, H: Wait + Copy + Drop> Hall<R, J, H> {
         let run = RunId::new(task.run);
         match run_step(&self.board, &mut state.store, self.alloc, run, brought) {
             Next::Moved(moved) => match moved {
-                Move::Carry(work) => return Turn::Carry(Errand { task, work }),
+                Move::Carry(work) => return Turn::Carry(task.client, work),
                 Move::Blocked(_) => return self.park(state, task),
                 Move::Stepped => {
                     self.wake_parked(state);
@@ -150,6 +168,31 @@ impl<R: Rules + OneValue, J: BoardName, H: Wait + Copy + Drop> Hall<R, J, H> {
             },
             Next::Starved => return self.ended(state, task),
             Next::Over => return Turn::Free,
+        }
+    }
+
+    /// Starts a run for a request that waits, and takes its first steps. A run that is not over then, and
+    /// is not parked, is left to a worker, with its work if it has some. No step carries work out. While a
+    /// run is left, no other is started.
+    pub(crate) fn run_ahead(&self, state: &mut State<R, J>) -> Ahead<R, J> {
+        if state.left.is_some() {
+            return Ahead::Wake;
+        }
+        let Some(task) = state.start() else {
+            return Ahead::Nothing;
+        };
+        match self.advance(state, task, Hand::Look, AHEAD) {
+            Turn::Reply(client, collected) => Ahead::Reply(client, collected),
+            Turn::Free => Ahead::Nothing,
+            Turn::Shut => Ahead::Wake,
+            Turn::Carry(client, work) => {
+                state.left = Some(Turn::Carry(client, work));
+                Ahead::Wake
+            }
+            Turn::GoesOn(task) => {
+                state.left = Some(Turn::GoesOn(task));
+                Ahead::Wake
+            }
         }
     }
 

@@ -54,6 +54,7 @@ impl Model for Inputs {
 impl Inputs {
     /// Inputs without files, at revision 0, which take their memory from `alloc`.
     pub fn new(alloc: Global) -> Result<Inputs, Memory>
+        // No file was set, the revision is 0, and the history has one member, without files.
         ensures { IfOk result (λ inputs.
             inputs ≡ record { files = []; revision = 0; history = [] ∷ [] }) }
     {
@@ -86,16 +87,23 @@ impl Inputs {
         text: Option<String>,
         durability: Durability,
     ) -> Result<Revision, SetRefused>
+        // `revision`, `files`, `history`: An accepted change makes one revision more, sets exactly
+        // this file, and appends exactly these sources to the history.
         ensures revision { IfOk result (λ revision.
             (revision ≡ self.old.revision + 1) × (self.new.revision ≡ revision)) }
         ensures files { let file : File = record { text = option_map string_bytes text; durability = durability } in
             OnOk result (self.new.files ≡ with_file self.old.files name.now file) }
         ensures history { OnOk result (self.new.history ≡ self.old.history ++ self.new.files ∷ []) }
+        // `accepted`, `fault`: A change is refused with the first reason that holds: text over
+        // 1,048,576 bytes, a 4,097th file, revision 18,446,744,073,709,551,615. `Memory` in no
+        // other case than a failed allocation.
         ensures accepted { OnOk result
             (refusal self.old name.now (option_map string_bytes text) ≡ None) }
         ensures fault { IfErr result (λ refused.
             refused.fault ≡
             unwrap_or (refusal self.old name.now (option_map string_bytes text)) InputFault.Memory) }
+        // `refused`, `back`: A refused change leaves the inputs as they were, and its text comes
+        // back.
         ensures refused { OnErr result (self.new ≡ self.old) }
         ensures back { IfErr result (λ refused. refused.text ≡ text) }
     {
@@ -151,6 +159,7 @@ impl Inputs {
 
     /// The text of the file `name`, or `None` where it is absent or was never set.
     pub fn get(&self, name: &str) -> Option<&str>
+        // The text of the file now.
         ensures { option_copied result ≡ (file_in self.now.files name.now).text }
     {
         match self.files.get(name) {
@@ -161,6 +170,7 @@ impl Inputs {
 
     /// The durability of the file `name`, which is `Low` where it was never set.
     pub fn durability(&self, name: &str) -> Durability
+        // The durability of the file now.
         ensures { result ≡ (file_in self.now.files name.now).durability }
     {
         match self.files.get(name) {
@@ -174,7 +184,10 @@ impl Inputs {
     ///
     /// At each revision from that one on the file is what it is now.
     pub fn changed_at(&self, name: &str) -> Revision
+        // `last`, `kept`: The last revision at which the file changed. From that revision on the
+        // file is as it is now.
         ensures last { IsLastChange self.now.history name.now result }
+        // It is at most the last revision.
         ensures within { result ≤ self.now.revision }
         ensures kept { (revision : ℕ) (then : Sources) → result ≤ revision →
             slice_get self.now.history revision ≡ Some then →
@@ -189,6 +202,8 @@ impl Inputs {
     /// It is looked for first at `near`. Where that is the number, this takes one comparison of
     /// names, and else a search.
     pub fn number_of(&self, name: &str, near: usize) -> Option<usize>
+        // `number`, `none`: The place of the file among those that were set, or that it was never
+        // set, wherever it is looked for first.
         ensures number { IfSome result (λ number. slice_get self.now.files number ≡
             Some (name.now, file_in self.now.files name.now)) }
         ensures none { IfNone result (was_set self.now.files name.now ≡ false) }
@@ -202,6 +217,8 @@ impl Inputs {
     /// The last change of the file `name`: what `changed_at` and `durability` return. The file is
     /// looked for first at the number `near`.
     pub fn change_of(&self, name: &str, near: usize) -> Change
+        // `last`, `durability`: The last revision at which the file changed, and its durability,
+        // wherever it is looked for first.
         ensures last { IsLastChange self.now.history name.now result.revision }
         ensures durability { result.durability ≡ (file_in self.now.files name.now).durability }
     {
@@ -218,16 +235,22 @@ impl Inputs {
     /// Each file that changed later had a lower durability before that change. A file that has at
     /// least this durability at that revision, or at a later one, has not changed since.
     pub fn last_changed(&self, durability: Durability) -> Revision
+        // `last`, `later`: The last revision at which a file changed whose durability before was at
+        // least this one. A file that changed later was of a lower durability.
         ensures last { IsLastChangeOf self.now.history durability result }
+        // It is at most the last revision.
         ensures within { result ≤ self.now.revision }
         ensures later { (name : List ℕ) (revision : ℕ) (change : ChangesAt self.now.history name revision) →
             result ≤ revision → level (file_in change.before name).durability < level durability }
+        // From that revision on, a file of this durability or more is the same at every later
+        // revision.
         ensures stays { (revision other : ℕ) (then after : Sources) (name : List ℕ) →
             result ≤ revision → revision ≤ other →
             slice_get self.now.history revision ≡ Some then →
             slice_get self.now.history other ≡ Some after →
             level durability ≤ level (file_in then name).durability →
             file_in then name ≡ file_in after name }
+        // A higher durability's revision is never the later one.
         ensures ordered { (lower : Durability) (last : ℕ) → level lower ≤ level durability →
             IsLastChangeOf self.now.history lower last → result ≤ last }
     {
@@ -237,11 +260,15 @@ impl Inputs {
     /// The last revision. The sources at each revision are those at the one before with one file
     /// set.
     pub fn now(&self) -> Revision
+        // `now`, `bounded`: The last revision, which is at most 18,446,744,073,709,551,615.
         ensures now { result ≡ self.now.revision }
         ensures bounded { result ≤ last_revision }
+        // `counted`, `first`, `last`: The history has a member for each revision, the first without
+        // files and the last the files now.
         ensures counted { length self.now.history ≡ self.now.revision + 1 }
         ensures first { slice_get self.now.history 0 ≡ Some [] }
         ensures last { slice_get self.now.history self.now.revision ≡ Some self.now.files }
+        // Each member of the history after the first is the one before with one file set.
         ensures made { (revision : ℕ) (before after : Sources) →
             slice_get self.now.history revision ≡ Some before →
             slice_get self.now.history (revision + 1) ≡ Some after →

@@ -34,6 +34,8 @@ impl Revision {
     /// The revision after this one, which the next accepted change makes. No revision comes after
     /// the last one: that is returned again.
     pub fn next(self) -> Revision
+        // `next`, `last`: The revision after, which the next accepted change makes; the last
+        // revision again after it.
         ensures next { self < last_revision → result ≡ self + 1 }
         ensures last { self ≡ last_revision → result ≡ self }
     {
@@ -47,6 +49,7 @@ impl Revision {
 
     /// The number, counted from 0.
     pub fn number(self) -> u64
+        // Contracts see the number.
         ensures { result ≡ self }
     {
         self.number

@@ -26,6 +26,7 @@ pub mod Readings
 pub mod RunLemmas
 pub mod SameLines
 pub mod StringEnds
+pub mod StringRuns
 pub mod StringSteps
 pub mod UnitLemmas
 pub mod ValueSteps

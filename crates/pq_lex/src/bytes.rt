@@ -1,7 +1,7 @@
 //! The classes of bytes, and runs of bytes of one set.
 //! A byte's class is read from a table, and a run is read once.
 ghost use Rattle.std.specs.Prelude.{◌≡◌, ◌≤◌, length};
-ghost use Rattle.pq_lex.specs.Classes.{byte, is_between, is_digit, is_space, class_of, in_set};
+ghost use Rattle.pq_lex.specs.Classes.{byte, is_between, is_digit, class_of, in_set};
 ghost use Rattle.pq_lex.specs.Runs.{run_end};
 
 use Class::{
@@ -93,14 +93,6 @@ fn is_digit(b: u8) -> bool
     is_between(b'0', b'9', b)
 }
 
-/// Whether `b` is a space, or one of tab, LF, VT, FF and CR, whose codes follow one another.
-#[inline]
-fn is_space(b: u8) -> bool
-    ensures { result ≡ is_space b }
-{
-    b == b' ' || is_between(b'\t', b'\r', b)
-}
-
 /// The class of `b`.
 #[inline]
 pub(crate) fn class_of(b: u8) -> Class
@@ -115,7 +107,7 @@ pub(crate) fn in_set(set: Set, b: u8) -> bool
     ensures { result ≡ in_set set b }
 {
     match set {
-        Set::Spaces => is_space(b),
+        Set::Spaces => matches!(class_of(b), Class::Space),
         Set::Words => matches!(class_of(b), Class::Letter | Class::Digit),
         Set::Digits => is_digit(b),
         Set::Octals => is_between(b'0', b'7', b),

@@ -378,6 +378,9 @@ pub fn apply(
     text: Option<&str>,
     changes: &[TextChange],
 ) -> Result<Option<String>, Memory>
+    // The text after a list of changes, each made on the text that the change before it left.
+    // `None` if a change has a range and there is no text, or the text has no such line, or the end
+    // is before the start; and for no change and no text.
     ensures { IfOk result (λ t. option_map string_bytes t ≡ apply (option_copied text.entry) changes.now) }
 {
     if changes.len() <= FEW {

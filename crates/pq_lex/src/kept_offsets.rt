@@ -51,14 +51,14 @@ impl Eq for Offsets {
 }
 
 impl Offsets {
-    /// No offsets.
-    pub(crate) fn new(alloc: Global) -> Offsets
-        ensures { result ≡ [] }
+    /// No offsets, with room for `count` of them.
+    pub(crate) fn with_capacity(alloc: Global, count: usize) -> Result<Offsets, Memory>
+        ensures { IfOk result (λ o. o ≡ []) }
     {
-        Offsets {
-            low: Vec::new(alloc),
+        Ok(Offsets {
+            low: Vec::with_capacity(alloc, count)?,
             high: Vec::new(alloc),
-        }
+        })
     }
 
     /// How many offsets there are.

@@ -28,6 +28,9 @@ use std::marker::Model;
 /// The bytes of a line from one kept count of UTF-16 units to the next.
 const INTERVAL: usize = 64;
 
+/// The bytes of a text for which room for one line is made at first.
+const LINE: usize = 64;
+
 /// A line that is not ASCII.
 #[derive(Drop)]
 #[derive_where(PartialEq, Eq)]
@@ -79,7 +82,10 @@ impl PartialEq for LineIndex {
     ghost laws = { partial_equiv_from_equiv same_lines_equiv };
 
     fn eq(&self, other: &LineIndex) -> bool
+        // Whether the two indexes keep the same lines (`same_lines`).
         ensures is { result ≡ same_lines self.now other.now }
+        // `equal_are_same`, `same_are_equal`: `==` of two indexes holds exactly if their models are
+        // equal.
         ensures equal_are_same { result ≡ true → self.now ≡ other.now }
         ensures same_are_equal { self.now ≡ other.now → result ≡ true }
     {
@@ -378,13 +384,14 @@ impl LineIndex {
     /// Returns the index of `text`, in time linear in `text`. The one error is an allocation
     /// failure.
     pub fn new(alloc: Global, text: &str) -> Result<LineIndex, Memory>
+        // The index keeps the lines of the text (`lines_of`).
         ensures { IfOk result (λ i. i ≡ lines_of text.now) }
     {
         let bytes = text.as_bytes();
         let plain = bytes.is_ascii();
         let mut marks = Marks {
-            starts: Offsets::new(alloc),
-            ends: Offsets::new(alloc),
+            starts: Offsets::with_capacity(alloc, bytes.len() / LINE)?,
+            ends: Offsets::with_capacity(alloc, bytes.len() / LINE)?,
             wide: Vec::new(alloc),
         };
         let mut start = 0;
@@ -404,6 +411,8 @@ impl LineIndex {
     /// An offset inside a character counts as the character's start, one inside a terminator as the
     /// terminator's, and one after the end of the text as that end.
     pub fn position(&self, offset: usize) -> Position
+        // `of_text`, `exact`: Line and UTF-16 column of an offset of the text; a function of the
+        // kept lines.
         ensures of_text { (text : List ℕ) → self.now ≡ lines_of text → offset ≤ length text → result ≡ position_of text offset }
         ensures exact { result ≡ place_in self.now offset }
     {
@@ -418,6 +427,8 @@ impl LineIndex {
     /// A column past the line's end gives that end, and a column inside a character the character's
     /// start.
     pub fn offset(&self, position: Position) -> Option<usize>
+        // `of_text`, `exact`: The largest offset at or before a position; `None` if the line does
+        // not exist; a function of the kept lines.
         ensures of_text { (text : List ℕ) → self.now ≡ lines_of text → IsOffset text position result }
         ensures exact { result ≡ offset_in self.now position }
     {

@@ -41,10 +41,14 @@ fn close_at(bytes: &[u8], from: usize) -> usize
     ensures { result ≡ close_at bytes.now from }
 {
     let mut at = from;
-    while at < bytes.len() && !closes(bytes, at) {
-        at += 1;
+    while let Some(n) = memchr(b'*', &bytes[at..]) {
+        let star = at + n;
+        if closes(bytes, star) {
+            return star;
+        }
+        at = star + 1;
     }
-    at
+    bytes.len()
 }
 
 /// The end of the line comment whose text starts at `from`: the offset of the first LF from there

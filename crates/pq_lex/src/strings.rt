@@ -6,6 +6,7 @@ ghost use Rattle.pq_lex.specs.Classes.{byte, is_quote};
 ghost use Rattle.pq_lex.specs.aux.Scan.{text_step};
 ghost use Rattle.pq_lex.specs.Tokens.{is_plain};
 
+use crate::bytes::{Set, run_end};
 use crate::escapes::escape_at;
 use crate::token::{Code, Kind, Span, Step};
 
@@ -35,7 +36,7 @@ pub(crate) fn text_step(bytes: &[u8], start: usize) -> Step
     while at < bytes.len() {
         let b = bytes[at];
         if is_plain(quote, b) {
-            at += 1;
+            at = run_end(Set::Words, bytes, at + 1);
         } else if b == quote {
             return Step::Take(Kind::Text, at + 1);
         } else if b == b'\\' {

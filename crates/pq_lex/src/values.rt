@@ -42,6 +42,8 @@ fn integer_value_of(word: &[u8]) -> Option<u64>
 /// another kind.
 /// (proto3 language specification, "Integer literals".)
 pub fn integer_value(text: &str, token: &Token) -> Option<u64>
+    // `integer`, `other`: The number that an integer token spells, `None` past 64 bits and for
+    // another kind.
     ensures integer { token.now.kind ≡ Kind.Integer → result ≡ integer_value_of (spelling text.now token.now.span) }
     ensures other { (token.now.kind ≡ Kind.Integer → ⊥) → result ≡ None }
 {
@@ -73,7 +75,7 @@ fn text_value_of(alloc: Global, word: &[u8]) -> Result<Vec<u8>, Memory>
     ensures { IfOk result (λ v. v.items ≡ text_value_of word.now) }
 {
     let quote = byte_at(word, 0);
-    let mut value = Vec::new(alloc);
+    let mut value = Vec::with_capacity(alloc, word.len())?;
     let mut at = 1;
     while at < word.len() {
         let b = word[at];
@@ -97,6 +99,8 @@ fn text_value_of(alloc: Global, word: &[u8]) -> Result<Vec<u8>, Memory>
 /// The one error is an allocation failure.
 /// (proto3 language specification, "String literals".)
 pub fn text_value(alloc: Global, text: &str, token: &Token) -> Result<Vec<u8>, Memory>
+    // `string`, `other`: The bytes that a string token spells, its escapes decoded; empty for
+    // another kind.
     ensures string { token.now.kind ≡ Kind.Text → IfOk result (λ v. v.items ≡ text_value_of (spelling text.now token.now.span)) }
     ensures other { (token.now.kind ≡ Kind.Text → ⊥) → IfOk result (λ v. v.items ≡ []) }
 {

@@ -42,6 +42,7 @@ impl BareFile {
 
     /// The statements, in text order.
     pub fn as_slice(&self) -> &[Node]
+        // The statements without spans; an absent file and one with a syntax error have none.
         ensures nodes { result.now ≡ self.now }
     {
         self.nodes.as_slice()
@@ -80,6 +81,7 @@ pub enum FileItems {
 impl FileItems {
     /// The statements, of which only a tree has some.
     pub fn nodes(&self) -> &[Node]
+        // The statements without spans; an absent file and one with a syntax error have none.
         ensures nodes { result.now ≡ nodes_in self.now }
     {
         match self {

@@ -72,7 +72,9 @@ impl FileNames {
 
     /// The names, in text order.
     pub fn as_slice(&self) -> &[Shared<Text>]
+        // The names of the list, in order.
         ensures value { result.now ≡ self.now }
+        // Each name is in the list once.
         ensures once { each_once bytes_eq self.now ≡ self.now }
     {
         &self.names

@@ -40,23 +40,30 @@ use pq_syntax::{each_parse, one_fault, one_tree};
 
 /// The parse of a file asks its text, and ends in what a file with that text is read as.
 pub fn parse_by_answers<S: LinkKeys>()
+    // The query of a parse asks the file's text, and ends in the tree or first error of that text,
+    // with its lines.
     ensures gives { (f : List ℕ) (es : List (S.Key × S.Answer)) (v : ParsedFile) → Runs (λ (q : Unit {0}) (a : S.Answer). parse_advances (S.text a)) (parse_starts S.input f) es (Done v) → IsParsedBy S.input S.text f es v }
 {}
 
 /// The tree without spans of a file asks its parse, and ends in what that is without spans.
 pub fn items_by_answers<S: LinkKeys>()
+    // The query of trees without spans asks the file's parse, and ends in that without spans.
     ensures gives { (f : List ℕ) (es : List (S.Key × S.Answer)) (v : FileItems) → Runs (λ (q : Unit {0}) (a : S.Answer). items_advances (S.parsed a)) (items_starts S.parse f) es (Done v) → AreItemsBy S.parse S.parsed f es v }
 {}
 
 /// The imports of a file ask its tree without spans, and end in the imports of that, `None` where
 /// the file is absent.
 pub fn imports_by_answers<S: LinkKeys>()
+    // The query of imports asks the file's tree without spans, and ends in its imports: each pair
+    // of name and publicity once, in text order.
     ensures gives { (f : List ℕ) (es : List (S.Key × S.Answer)) (v : Option (List Import)) → Runs (λ (q : Unit {0}) (a : S.Answer). imports_advances (S.itemed a)) (imports_starts S.items f) es (Done v) → AreImportsBy S.items S.itemed f es v }
 {}
 
 /// The links of a file ask its imports and then the links of each imported file, in order, and end
 /// in the links by these.
 pub fn links_by_answers<S: LinkKeys>()
+    // The query of links asks the file's imports and then the links of each imported file, in
+    // order. It ends in the links that these answers make.
     ensures gives { (f : List ℕ) (es : List (S.Key × S.Answer)) (l : Links) → Runs (λ (q : Linking) (a : S.Answer). linked_advances S.linked (S.imported a) (S.links a) q) (linked_starts S.imports f) es (Done l) → AreLinksBy S.imports S.linked S.imported S.links f es l }
 {}
 
@@ -64,7 +71,11 @@ pub fn links_by_answers<S: LinkKeys>()
 /// file's links is what the graph says: the links of a good file, the ring of a bad one. If imports
 /// have answers, then what the graph says is an answer.
 pub fn links_in_rules<R: Rules>(_rules: &R)
+    // In every rule set that embeds the query of links above the imports of a graph, the answer of
+    // a good file's links is what it exports, sees and reaches. A bad file's is the cycle of its
+    // ring: the ring into which first bad imports lead, from the least name on.
     ensures means { (files : Sources) (g : Graph) (imports : List ℕ → R.Key) (imports_read : Answer R.Key R.Value → Option (List Import)) (level : ℕ) (s : EmbedsLinks (over R.Key.cmp (R.machine _rules.now) files) g imports imports_read level) → (f : List ℕ) (a : Answer R.Key R.Value) → Means (over R.Key.cmp (R.machine _rules.now) files) (s.linked.key f) a → LinkedIs g s.linked.key s.linked.value f a }
+    // What the graph says of a file's links is an answer, if every file's imports have one.
     ensures answers { (files : Sources) (g : Graph) (imports : List ℕ → R.Key) (imports_read : Answer R.Key R.Value → Option (List Import)) (level : ℕ) (s : EmbedsLinks (over R.Key.cmp (R.machine _rules.now) files) g imports imports_read level) → ((f : List ℕ) → (a : Answer R.Key R.Value) × Means (over R.Key.cmp (R.machine _rules.now) files) (imports f) a) → (f : List ℕ) (a : Answer R.Key R.Value) → LinkedIs g s.linked.key s.linked.value f a → Means (over R.Key.cmp (R.machine _rules.now) files) (s.linked.key f) a }
 {}
 
@@ -72,15 +83,23 @@ pub fn links_in_rules<R: Rules>(_rules: &R)
 /// that walks of public imports lead to. It sees itself and what its imports export. Each of the
 /// three lists has each name once.
 pub fn reach_is_walks()
+    // `reach`, `exports`: A present file is among those that a good file reaches exactly if it is
+    // that file or a walk of imports leads to it; among those that it exports, exactly if a walk of
+    // public imports does. Absent files are in no list.
     ensures reach { (g : Graph) (f h : List ℕ) (l : Links) → AreLinks g f l → In h l.reach ↔ (IsSome (g h) × LeadsTo g f h) }
     ensures exports { (g : Graph) (f h : List ℕ) (l : Links) → AreLinks g f l → In h l.exports ↔ (IsSome (g h) × LeadsPublicly g f h) }
+    // A present file is among those that a good file sees exactly if it is that file, or public
+    // imports lead to it from a file that it imports.
     ensures visible { (g : Graph) (f h : List ℕ) (l : Links) → AreLinks g f l → In h l.visible ↔ (IsSome (g h) × IsInView g f h) }
+    // Each of the three lists has each name once. Their order is that of `Visibility`.
     ensures once { (g : Graph) (f : List ℕ) (l : Links) → AreLinks g f l → IsDistinct bytes_eq l.reach × IsDistinct bytes_eq l.exports × IsDistinct bytes_eq l.visible }
 {}
 
 /// A text is read as a tree exactly if that is its tree by the grammar, and as an error exactly if
 /// that is its first error. The law `places_of_text` of `pq_proto` says the same of its lines.
 pub fn read_by_grammar()
+    // `tree`, `fault`: A text is read as a tree exactly if that is its tree by the grammar, and as
+    // an error exactly if that is its first error, beside its lines.
     ensures tree { (text : List ℕ) (nodes : List Node) → (read_file (Some text) ≡ Present (Tree nodes) (lines_of text)) ↔ IsTree text nodes }
     ensures fault { (text : List ℕ) (span : Span) (code : Code) → (read_file (Some text) ≡ Present (Fault span code) (lines_of text)) ↔ FaultStands text span code }
 {

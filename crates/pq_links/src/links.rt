@@ -18,6 +18,7 @@ pub struct Import {
 impl Import {
     /// A copy, which shares the name.
     pub fn copy(&self) -> Result<Import, Memory>
+        // A copy is equal.
         ensures copy { IfOk result (λ i. i ≡ self.now) }
     {
         Ok(Import {

@@ -157,6 +157,9 @@ fn span_at(part: Part, node: &Node) -> Option<Span>
 /// The span of the part `part` of the item of the number `item`, or `None` if `file` has no such
 /// item or the item has no such part. The law `parts_within` says where the span lies.
 pub fn place(file: &File, item: usize, part: Part) -> Option<Span>
+    // The span of a part of an item: of the whole statement, its name, its number, a type that it
+    // refers to, the constant of its nth option, its nth reserved range. `None` if there is no such
+    // item or part.
     ensures span { result ≡ place file.now item part }
 {
     match file.as_slice().get(item) {
@@ -168,6 +171,8 @@ pub fn place(file: &File, item: usize, part: Part) -> Option<Span>
 /// In the tree of a text, the span of a part of an item lies in the text and in the span of the
 /// item's statement.
 pub fn parts_within()
+    // In the tree of a text the span of a part lies in the text and in the span of the item's
+    // statement.
     ensures within { (text : List ℕ) (nodes : List Node) (item : ℕ) (part : Part) (at : Span) →
         IsTree text nodes → place nodes item part ≡ Some at → LiesIn (length text) nodes item at }
 {
@@ -176,6 +181,7 @@ pub fn parts_within()
 
 /// Leaving spans out of a tree keeps which items it has, and which parts these have.
 pub fn parts_stay()
+    // Leaving spans out keeps which items a tree has, and which parts these have.
     ensures stay { (nodes : List Node) (item : ℕ) (part : Part) →
         is_some (place (map bare nodes) item part) ≡ is_some (place nodes item part) }
 {}

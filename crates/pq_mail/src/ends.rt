@@ -5,8 +5,11 @@
 ghost use Rattle.std.specs.Prelude.{◌≡◌, ◌++◌, ◌∷◌, [], length, OnOk, OnErr, IfOk, IfErr, IfSome, IfNone};
 ghost use Rattle.pq_mail.specs.Mailbox.{HasNoRoom, IsPrefixOf, IsFullPut, refused_item};
 
+use crate::bell::{Ringer, Sleeper, bell};
 use crate::line::{Compares, Ends, Gets, InOrder, Item, Line, Puts};
-use crossbeam_channel::{Pass, RuledReceiver, RuledSender, SendError, TrySendError, bounded_with};
+use crossbeam_channel::{
+    Pass, RuledReceiver, RuledSender, SendError, TryRecvError, TrySendError, bounded_with,
+};
 use std::alloc::{AllocError, Global};
 use std::marker::Model;
 use std::sync::Wait;
@@ -19,6 +22,8 @@ pub const CAPACITY: usize = 32;
 pub struct PutEnd<T: Item> {
     sender: RuledSender<T, Line<T>, InOrder<T>>,
     pass: Pass<T, Line<T>>,
+    // It is dropped after the sender: then a get finds that no put comes.
+    ringer: Ringer,
 }
 
 impl<T: Item> Model for PutEnd<T> {
@@ -40,6 +45,7 @@ impl<T: Item> Model for PutEnd<T> {
 pub struct GetEnd<T: Item> {
     receiver: RuledReceiver<T, Line<T>, InOrder<T>>,
     pass: Pass<T, Line<T>>,
+    sleeper: Sleeper,
 }
 
 impl<T: Item> Model for GetEnd<T> {
@@ -72,10 +78,16 @@ pub fn mailbox<T: Item>(alloc: Global) -> Result<(PutEnd<T>, GetEnd<T>), AllocEr
 {
     let (sender, receiver, mut pass) = bounded_with(alloc, CAPACITY)?;
     let taker = sender.another::<Ends>(&mut pass);
-    let put = PutEnd { sender, pass };
+    let (ringer, sleeper) = bell(alloc)?;
+    let put = PutEnd {
+        sender,
+        pass,
+        ringer,
+    };
     let got = GetEnd {
         receiver,
         pass: taker,
+        sleeper,
     };
     Ok((put, got))
 }
@@ -91,10 +103,37 @@ impl<T: Item> PutEnd<T> {
         ensures same { (self.new.table ≡ self.old.table) × (self.new.key ≡ self.old.key) }
     {
         match self.sender.send_as::<Puts, H>(rt, &mut self.pass, item) {
-            Ok(()) => return Ok(()),
+            Ok(()) => {
+                self.ringer.ring();
+                return Ok(());
+            }
             Err(SendError::Disconnected(item)) => return Err(item),
             Err(SendError::OutOfMemory(_)) => unreachable!(),
         }
+    }
+
+    /// Puts `item` as `put` does, but wakes nobody, unless it waits for room. `wake` is called after it.
+    pub fn put_quietly<H: Wait>(&mut self, rt: &H, item: T) -> Result<(), T>
+        requires fits { T.fits (length self.old.items) item }
+        ensures put { OnOk result (self.new.items ≡ self.old.items ++ item ∷ []) }
+        ensures refused { OnErr result (self.new.items ≡ self.old.items) }
+        ensures back { IfErr result (λ back. back ≡ item) }
+        ensures same { (self.new.table ≡ self.old.table) × (self.new.key ≡ self.old.key) }
+    {
+        match self.sender.try_send_as::<Puts, H>(rt, &mut self.pass, item) {
+            Ok(()) => return Ok(()),
+            Err(TrySendError::Full(item)) => {
+                self.ringer.ring();
+                return self.put(rt, item);
+            }
+            Err(TrySendError::Disconnected(item)) => return Err(item),
+            Err(TrySendError::OutOfMemory(_)) => unreachable!(),
+        }
+    }
+
+    /// Wakes the end that gets, if it waits.
+    pub fn wake(&self) {
+        self.ringer.ring();
     }
 
     /// Puts `item` after those put before if there is room. It never waits for room, only for the
@@ -108,7 +147,10 @@ impl<T: Item> PutEnd<T> {
         ensures same { (self.new.table ≡ self.old.table) × (self.new.key ≡ self.old.key) }
     {
         match self.sender.try_send_as::<Puts, H>(rt, &mut self.pass, item) {
-            Ok(()) => return Ok(()),
+            Ok(()) => {
+                self.ringer.ring();
+                return Ok(());
+            }
             Err(TrySendError::Full(item)) => return Err(Unput::Full(item)),
             Err(TrySendError::Disconnected(item)) => return Err(Unput::Gone(item)),
             Err(TrySendError::OutOfMemory(_)) => unreachable!(),
@@ -125,11 +167,19 @@ impl<T: Item> PutEnd<T> {
         ensures puts { self.new ≡ self.old }
         ensures gets { result ≡ got }
     {
-        let GetEnd { receiver, pass } = got;
+        let GetEnd {
+            receiver,
+            pass,
+            sleeper,
+        } = got;
         self.sender.absorb::<Ends>(&mut self.pass, pass);
         self.sender.learn_as::<Compares>(&mut self.pass);
         let pass = self.sender.another::<Ends>(&mut self.pass);
-        GetEnd { receiver, pass }
+        GetEnd {
+            receiver,
+            pass,
+            sleeper,
+        }
     }
 }
 
@@ -141,9 +191,31 @@ impl<T: Item> GetEnd<T> {
         ensures none { IfNone result (self.new.items ≡ self.old.items) }
         ensures same { (self.new.table ≡ self.old.table) × (self.new.key ≡ self.old.key) }
     {
-        match self.receiver.recv_as::<Gets<T>, H>(rt, &mut self.pass) {
-            Ok(item) => return Some(item),
-            Err(_) => return None,
+        for _ in rt.forever() {
+            match self.try_get(rt) {
+                Ok(item) => {
+                    self.sleeper.stay();
+                    return Some(item);
+                }
+                Err(true) => return None,
+                Err(false) => self.sleeper.pause(rt),
+            }
+        }
+        unreachable!()
+    }
+
+    /// The next item, in the order of putting, if the mailbox has one. It never waits for one, only for
+    /// the step of another thread on the same place. `Err` if the mailbox was empty: it is whether the end
+    /// that puts is gone. Then nothing was got.
+    pub fn try_get<H: Wait>(&mut self, rt: &H) -> Result<T, bool>
+        ensures got { IfOk result (λ x. (self.new.items ≡ self.old.items ++ x ∷ []) × T.fits (length self.old.items) x) }
+        ensures none { OnErr result (self.new.items ≡ self.old.items) }
+        ensures same { (self.new.table ≡ self.old.table) × (self.new.key ≡ self.old.key) }
+    {
+        match self.receiver.try_recv_as::<Gets<T>, H>(rt, &mut self.pass) {
+            Ok(item) => return Ok(item),
+            Err(TryRecvError::Disconnected) => return Err(true),
+            Err(TryRecvError::Empty) => return Err(false),
         }
     }
 }

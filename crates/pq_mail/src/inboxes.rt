@@ -52,6 +52,7 @@ impl<K: Drop> Model for PorterEnd<K> {
 
 /// An empty inbox with room for 32 posts. `rules` copies the keys of requests.
 pub fn inbox<R: Rules>(alloc: Global, rules: R) -> Result<(PostEnd<R>, PorterEnd<R::Key>), Memory>
+    // `posted`, `carried`, `same`: Both ends of one mailbox, empty.
     ensures posted { IfOk result (λ r. r.0.items ≡ []) }
     ensures carried { IfOk result (λ r. r.1.items ≡ []) }
     ensures same { IfOk result (λ r. (r.0.table ≡ r.1.table) × (r.0.key ≡ r.1.key)) }
@@ -78,15 +79,49 @@ impl<R: Rules> PostEnd<R> {
     /// - `Gone` where 2^64 - 1 requests were posted.
     /// - `Memory` where the request cannot be copied.
     /// - `Gone` where the porter end is gone.
-    #[tactic(auto, using(crate::proofs::Asked::asks_after))]
     pub fn post<H: Wait>(
         &mut self,
         rt: &H,
         post: Post<R::Key>,
     ) -> Result<Receipt<R::Key>, PostRefused<R::Key>>
+        // The post is the last one posted; the receipt has the number of requests posted before,
+        // and the request if the post is one.
         ensures posted { IfOk result (λ receipt. (self.new.items ≡ self.old.items ++ post ∷ []) × (receipt.number ≡ asks self.old.items) × (receipt.request ≡ request_of post)) }
+        // `refused`, `back`: A refusal posts nothing and hands the post back.
         ensures refused { OnErr result (self.new.items ≡ self.old.items) }
         ensures back { IfErr result (λ refused. refused.post ≡ post) }
+        // An end stays one of its mailbox.
+        ensures same { (self.new.table ≡ self.old.table) × (self.new.key ≡ self.old.key) }
+    {
+        let posted = self.post_quietly(rt, post);
+        self.wake();
+        posted
+    }
+
+    /// Wakes the end that hands posts on, if it waits.
+    pub fn wake(&self) {
+        self.end.wake();
+    }
+
+    /// Posts `post` as the call of that name does, but wakes nobody, unless it waits for room. The caller
+    /// is to call `wake` after it.
+    ///
+    /// # Errors
+    ///
+    /// Those of `post`, in the same order.
+    #[tactic(auto, using(crate::proofs::Asked::asks_after))]
+    pub fn post_quietly<H: Wait>(
+        &mut self,
+        rt: &H,
+        post: Post<R::Key>,
+    ) -> Result<Receipt<R::Key>, PostRefused<R::Key>>
+        // The post is the last one posted; the receipt has the number of requests posted before,
+        // and the request if the post is one.
+        ensures posted { IfOk result (λ receipt. (self.new.items ≡ self.old.items ++ post ∷ []) × (receipt.number ≡ asks self.old.items) × (receipt.request ≡ request_of post)) }
+        // `refused`, `back`: A refusal posts nothing and hands the post back.
+        ensures refused { OnErr result (self.new.items ≡ self.old.items) }
+        ensures back { IfErr result (λ refused. refused.post ≡ post) }
+        // An end stays one of its mailbox.
         ensures same { (self.new.table ≡ self.old.table) × (self.new.key ≡ self.old.key) }
     {
         let number = self.asked;
@@ -100,7 +135,7 @@ impl<R: Rules> PostEnd<R> {
                 let fault = PostFault::Memory;
                 return Err(PostRefused { fault, post });
             }
-            Ok(request) => match self.end.put(rt, post) {
+            Ok(request) => match self.end.put_quietly(rt, post) {
                 Ok(()) => {
                     self.asked = after;
                     let number = Number::new(number);
@@ -119,8 +154,10 @@ impl<K: Drop> PorterEnd<K> {
     /// The next post, in the order of posting. It waits for one. `None` if no post is left and the
     /// end that posts is gone; then nothing was carried.
     pub fn next<H: Wait>(&mut self, rt: &H) -> Option<Post<K>>
+        // `some`, `none`: The post is the next one carried; without one nothing was carried.
         ensures some { IfSome result (λ post. self.new.items ≡ self.old.items ++ post ∷ []) }
         ensures none { IfNone result (self.new.items ≡ self.old.items) }
+        // An end stays one of its mailbox.
         ensures same { (self.new.table ≡ self.old.table) × (self.new.key ≡ self.old.key) }
     {
         self.end.get(rt)
@@ -132,8 +169,11 @@ pub fn carried_is_prefix<R: Rules>(
     post: &mut PostEnd<R>,
     porter: PorterEnd<R::Key>,
 ) -> PorterEnd<R::Key>
+    // Both ends are of one mailbox.
     requires same { (porter.table ≡ post.old.table) × (porter.key ≡ post.old.key) }
+    // What was carried of an inbox is a prefix of what was posted.
     ensures prefix { IsPrefixOf porter.items post.old.items }
+    // `posted`, `carried`: The end that posts is as it was, and the end that carries comes back.
     ensures posted { post.new ≡ post.old }
     ensures carried { result ≡ porter }
 {

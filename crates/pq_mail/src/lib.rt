@@ -6,10 +6,12 @@
 //! A receipt counts the requests posted before, and `TakeEnd::next` gives a reply only to its receipt.
 //!
 //! Definitions: `specs/Mailbox` (the ends of a mailbox), `specs/Posts` (posts and receipts).
-//! Modules: `line` (the rule of a mailbox, and its kinds of step), `ends` (the two ends of any mailbox),
-//! `post`, `inboxes`, `right` (replies whose type keeps that they are right), `outboxes`, `fault`.
+//! Modules: `line` (the rule of a mailbox, and its kinds of step), `bell` (how a get waits), `ends` (the
+//! two ends of any mailbox), `post`, `inboxes`, `right` (replies whose type keeps that they are right),
+//! `outboxes`, `fault`.
 #![tactic(auto)]
 
+mod bell;
 mod ends;
 mod fault;
 mod inboxes;
@@ -18,6 +20,7 @@ mod outboxes;
 mod post;
 mod right;
 
+pub use ends::CAPACITY;
 pub use fault::{MailEnd, Memory, PostFault, PostRefused};
 pub use inboxes::{PorterEnd, PostEnd, carried_is_prefix, inbox};
 pub use outboxes::{LaneEnd, TakeEnd, outbox, taken_is_prefix};

@@ -1,5 +1,5 @@
 //! The outbox of a client: its replies, in the order of its requests.
-ghost use Rattle.std.specs.Prelude.{◌≡◌, ◌++◌, ◌∷◌, [], length, OnOk, OnErr, IfOk, IfErr};
+ghost use Rattle.std.specs.Prelude.{◌≡◌, ◌↔◌, ◌++◌, ◌∷◌, [], length, OnOk, OnErr, IfOk, IfErr, IfSome, IfNone, IsTrue};
 ghost use Rattle.pq_mail.specs.Mailbox.{IsPrefixOf};
 ghost use Rattle.pq_mail.specs.Posts.{IsReceiptOf, Misses};
 
@@ -49,12 +49,21 @@ impl<R: Rules, M: Stamp, H: Wait + Drop> Outbox<R, M> for LaneEnd<R, M, H> {
         &mut self,
         reply: Reply<R::Key, R::Value, M>,
     ) -> Result<(), PutFault<R::Key, R::Value, M>>
+        // The number of the reply is the count of the replies put before.
         requires number { reply.number ≡ length self.old.items }
+        // What is put is true (`IsTrueReply`): an answer is that of the key of its request over the
+        // sources of its stamp, and the reply names the revision of the stamp.
         requires right { IsTrueReply R.Key.cmp R.machine M.point reply }
+        // `put`, `refused`, `back`: The reply is the last one put; a refusal puts nothing and hands
+        // the reply back.
         ensures put { OnOk result (self.new.items ≡ self.old.items ++ reply ∷ []) }
         ensures refused { OnErr result (self.new.items ≡ self.old.items) }
+        // The replies that were taken stay the same.
         ensures takes { no_items self.new ≡ no_items self.old }
+        // `Full` only where at one moment of the call the outbox held 32 replies, the last ones
+        // put.
         ensures full { IfErr result (λ fault. IsFull fault → HasNoRoom self.new.items) }
+        // This clause always holds: it does not say when `Gone` is answered.
         ensures gone { IfErr result (λ fault. IsGone fault → Unit {0}) }
         ensures back { IfErr result (λ fault. handed_back fault ≡ reply) }
     {
@@ -89,6 +98,7 @@ pub fn outbox<R: Rules, M: Stamp, H: Wait + Drop>(
     rules: R,
     rt: H,
 ) -> Result<(LaneEnd<R, M, H>, TakeEnd<R, M>), Memory>
+    // `put`, `got`, `same`: Both ends of one mailbox, empty.
     ensures put { IfOk result (λ r. r.0.items ≡ []) }
     ensures got { IfOk result (λ r. r.1.items ≡ []) }
     ensures same { IfOk result (λ r. (r.0.table ≡ r.1.table) × (r.0.key ≡ r.1.key)) }
@@ -112,8 +122,13 @@ impl<R: Rules, M: Stamp> TakeEnd<R, M> {
         rt: &H,
         receipt: &Receipt<R::Key>,
     ) -> Result<RightReply<R, M>, MailEnd>
+        // `IsReceiptOf`: The reply is the next one taken, its number is the count of those taken
+        // before, and it has the number and the request of the receipt.
         ensures taken { IfOk result (λ reply. (self.new.items ≡ self.old.items ++ reply ∷ []) × (reply.number ≡ length self.old.items) × IsReceiptOf receipt.now reply) }
+        // `Misses`: `Ended` takes nothing. `Stranger` takes the next reply, which is not that of
+        // the receipt.
         ensures missed { IfErr result (λ fault. Misses fault receipt.now self.old.items self.new.items) }
+        // An end stays one of its mailbox.
         ensures same { (self.new.table ≡ self.old.table) × (self.new.key ≡ self.old.key) }
     {
         match self.end.get(rt) {
@@ -126,6 +141,40 @@ impl<R: Rules, M: Stamp> TakeEnd<R, M> {
             }
         }
     }
+
+    /// The next reply, whatever receipt is its own. It waits for one. `None` if no reply is left and the
+    /// end that puts is gone; then nothing was taken.
+    pub fn any<H: Wait>(&mut self, rt: &H) -> Option<RightReply<R, M>>
+        // `taken`, `none`: The reply is the next one taken, and its number is the count of those taken
+        // before; without one nothing was taken.
+        ensures taken { IfSome result (λ reply. (self.new.items ≡ self.old.items ++ reply ∷ []) × (reply.number ≡ length self.old.items)) }
+        ensures none { IfNone result (self.new.items ≡ self.old.items) }
+        // An end stays one of its mailbox.
+        ensures same { (self.new.table ≡ self.old.table) × (self.new.key ≡ self.old.key) }
+    {
+        self.end.get(rt)
+    }
+
+    /// The next reply, whatever receipt is its own, if the outbox has one. It never waits for one. `None`
+    /// if the outbox was empty; then nothing was taken.
+    pub fn try_any<H: Wait>(&mut self, rt: &H) -> Option<RightReply<R, M>>
+        // `taken`, `none`: The reply is the next one taken, and its number is the count of those taken
+        // before; without one nothing was taken.
+        ensures taken { IfSome result (λ reply. (self.new.items ≡ self.old.items ++ reply ∷ []) × (reply.number ≡ length self.old.items)) }
+        ensures none { IfNone result (self.new.items ≡ self.old.items) }
+        // An end stays one of its mailbox.
+        ensures same { (self.new.table ≡ self.old.table) × (self.new.key ≡ self.old.key) }
+    {
+        self.end.try_get(rt).ok()
+    }
+
+    /// Whether `reply` is that of `receipt`: it has the number and the request of the receipt.
+    pub fn is_of(&self, receipt: &Receipt<R::Key>, reply: &RightReply<R, M>) -> bool
+        // Whether the reply has the number and the request of the receipt, both ways.
+        ensures { IsTrue result ↔ IsReceiptOf receipt.now reply.now }
+    {
+        is_receipt_of(&self.rules, receipt, reply.reply())
+    }
 }
 
 /// A law: what was taken out of an outbox is a prefix of what was put.
@@ -133,8 +182,11 @@ pub fn taken_is_prefix<R: Rules, M: Stamp, H: Wait + Drop>(
     lane: &mut LaneEnd<R, M, H>,
     take: TakeEnd<R, M>,
 ) -> TakeEnd<R, M>
+    // Both ends are of one mailbox.
     requires same { (take.table ≡ lane.old.table) × (take.key ≡ lane.old.key) }
+    // What was taken out of an outbox is a prefix of what was put.
     ensures prefix { IsPrefixOf take.items lane.old.items }
+    // `put`, `taken`: The end that puts is as it was, and the end that takes comes back.
     ensures put { lane.new ≡ lane.old }
     ensures taken { result ≡ take }
 {

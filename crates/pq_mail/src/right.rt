@@ -34,7 +34,10 @@ impl<R: Rules, M: Stamp> Item for RightReply<R, M> {
 impl<R: Rules, M: Stamp> RightReply<R, M> {
     /// `reply`, which is right.
     pub fn new(reply: Reply<R::Key, R::Value, M>) -> Self
+        // The reply is true (`IsTrueReply`): an answer is that of the key of its request over the
+        // sources of its stamp, and the reply names the revision of the stamp.
         requires { IsTrueReply R.Key.cmp R.machine M.point reply }
+        // The reply is the one that was handed in.
         ensures { result ≡ reply }
     {
         RightReply { reply }
@@ -42,7 +45,10 @@ impl<R: Rules, M: Stamp> RightReply<R, M> {
 
     /// The reply.
     pub fn reply(&self) -> &Reply<R::Key, R::Value, M>
+        // The reply that is kept.
         ensures same { result.now ≡ self.now }
+        // A reply that was taken is true: its type keeps the condition of `put` through the
+        // mailbox.
         ensures right { IsTrueReply R.Key.cmp R.machine M.point self.now }
     {
         &self.reply
@@ -50,7 +56,10 @@ impl<R: Rules, M: Stamp> RightReply<R, M> {
 
     /// The reply.
     pub fn into_reply(self) -> Reply<R::Key, R::Value, M>
+        // The reply that is kept.
         ensures same { result ≡ self }
+        // A reply that was taken is true: its type keeps the condition of `put` through the
+        // mailbox.
         ensures right { IsTrueReply R.Key.cmp R.machine M.point self }
     {
         let RightReply { reply } = self;

@@ -13,12 +13,12 @@ use Rattle.pq_rules.specs.aux.Evaluator.{left_number, Distinct}
 use Rattle.pq_rules.specs.aux.Lists.{in_append_left}
 use Rattle.pq_rules.proofs.Order.{strict}
 use Rattle.pq_rules.proofs.Weight.{Exact}
-use Rattle.pq_memo.specs.declared.frame.Frame.{Frame}
-use Rattle.pq_memo.specs.declared.frame.Stage.{Stage}
-use Rattle.pq_memo.specs.declared.frame.Stage.TheVariants.{Walking, Waiting}
-use Rattle.pq_memo.specs.declared.demanded.Carried.{Carried}
-use Rattle.pq_memo.specs.declared.look.Why.{Why}
-use Rattle.pq_memo.specs.declared.look.Why.TheVariants.{Fresh, Changed, Ring}
+use Rattle.pq_memo.specs.declared.stepping.frame.Frame.{Frame}
+use Rattle.pq_memo.specs.declared.stepping.frame.Stage.{Stage}
+use Rattle.pq_memo.specs.declared.stepping.frame.Stage.TheVariants.{Walking, Waiting}
+use Rattle.pq_memo.specs.declared.demand.demanded.Carried.{Carried}
+use Rattle.pq_memo.specs.declared.table.look.Why.{Why}
+use Rattle.pq_memo.specs.declared.table.look.Why.TheVariants.{Fresh, Changed, Ring}
 use Rattle.pq_memo.specs.Sound.{Memo, at}
 use Rattle.pq_memo.specs.Kept.{Kept}
 use Rattle.pq_memo.specs.Cause.{IsCause}

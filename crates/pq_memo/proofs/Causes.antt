@@ -6,11 +6,11 @@ use Rattle.pq_rules.specs.declared.turn.Turn.{Turn}
 use Rattle.pq_rules.specs.Turns.{Machine}
 use Rattle.pq_rules.specs.Relations.{In}
 use Rattle.pq_rules.proofs.Weight.{Exact}
-use Rattle.pq_memo.specs.declared.frame.Frame.{Frame}
-use Rattle.pq_memo.specs.declared.frame.Stage.{Stage}
-use Rattle.pq_memo.specs.declared.frame.Stage.TheVariants.{Walking, Waiting}
-use Rattle.pq_memo.specs.declared.demanded.Carried.{Carried}
-use Rattle.pq_memo.specs.declared.look.Why.{Why}
+use Rattle.pq_memo.specs.declared.stepping.frame.Frame.{Frame}
+use Rattle.pq_memo.specs.declared.stepping.frame.Stage.{Stage}
+use Rattle.pq_memo.specs.declared.stepping.frame.Stage.TheVariants.{Walking, Waiting}
+use Rattle.pq_memo.specs.declared.demand.demanded.Carried.{Carried}
+use Rattle.pq_memo.specs.declared.table.look.Why.{Why}
 use Rattle.pq_memo.specs.Sound.{Memo}
 use Rattle.pq_memo.specs.Table.{HasIn, IsSameTable}
 use Rattle.pq_memo.specs.Frames.{Awaits}

@@ -10,12 +10,12 @@ use Rattle.pq_rules.specs.Relations.{Each, In}
 use Rattle.pq_rules.specs.aux.Lists.{in_append_left, in_append_right}
 use Rattle.pq_rules.proofs.Rings.{each_in}
 use Rattle.pq_rules.proofs.Weight.{Exact}
-use Rattle.pq_memo.specs.declared.frame.Frame.{Frame}
-use Rattle.pq_memo.specs.declared.frame.Stage.{Stage}
-use Rattle.pq_memo.specs.declared.frame.Stage.TheVariants.{Walking, Waiting}
-use Rattle.pq_memo.specs.declared.demanded.Carried.{Carried}
-use Rattle.pq_memo.specs.declared.look.Why.{Why}
-use Rattle.pq_memo.specs.declared.look.Why.TheVariants.{Fresh, Changed, Ring}
+use Rattle.pq_memo.specs.declared.stepping.frame.Frame.{Frame}
+use Rattle.pq_memo.specs.declared.stepping.frame.Stage.{Stage}
+use Rattle.pq_memo.specs.declared.stepping.frame.Stage.TheVariants.{Walking, Waiting}
+use Rattle.pq_memo.specs.declared.demand.demanded.Carried.{Carried}
+use Rattle.pq_memo.specs.declared.table.look.Why.{Why}
+use Rattle.pq_memo.specs.declared.table.look.Why.TheVariants.{Fresh, Changed, Ring}
 use Rattle.pq_memo.specs.Sound.{Memo}
 use Rattle.pq_memo.specs.Kept.{Kept}
 use Rattle.pq_memo.specs.Look.{FileChanged, IsUpToDate, HasChanged, IsStill, IsGreen, IsByReads, Lasts, HasLapsed}

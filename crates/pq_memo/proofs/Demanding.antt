@@ -13,8 +13,8 @@ use Rattle.pq_rules.specs.aux.Evaluator.{Distinct}
 use Rattle.pq_rules.proofs.ListLemmas.{each_from}
 use Rattle.pq_rules.proofs.Order.{strict}
 use Rattle.pq_rules.proofs.Weight.{Exact}
-use Rattle.pq_memo.specs.declared.frame.Frame.{Frame}
-use Rattle.pq_memo.specs.declared.demanded.Carried.{Carried}
+use Rattle.pq_memo.specs.declared.stepping.frame.Frame.{Frame}
+use Rattle.pq_memo.specs.declared.demand.demanded.Carried.{Carried}
 use Rattle.pq_memo.specs.Sound.{Memo, at}
 use Rattle.pq_memo.specs.Kept.{Kept}
 use Rattle.pq_memo.specs.Look.{IsUpToDate}

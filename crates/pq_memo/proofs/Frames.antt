@@ -22,8 +22,8 @@ use Rattle.pq_memo.specs.Kept.{Kept}
 use Rattle.pq_memo.specs.Look.{IsUpToDate, HasLapsed, IsStill, IsByReads}
 use Rattle.pq_memo.specs.aux.Tests.{IsReachedAt}
 use Rattle.pq_memo.specs.Table.{memo_at, HasIn, KeptOver}
-use Rattle.pq_memo.specs.declared.look.Why.{Why}
-use Rattle.pq_memo.specs.declared.look.Why.TheVariants.{Fresh, Changed, Ring}
+use Rattle.pq_memo.specs.declared.table.look.Why.{Why}
+use Rattle.pq_memo.specs.declared.table.look.Why.TheVariants.{Fresh, Changed, Ring}
 use Rattle.pq_memo.specs.Frames.{Came, Sits, WalksAt}
 use Rattle.pq_memo.specs.Steps.{IsWhy}
 use Rattle.pq_memo.specs.aux.Frames.{IsCycleRead, IsReadAnswer, Passes}

@@ -10,8 +10,8 @@ use Rattle.pq_rules.specs.aux.Lists.{in_append, in_append_right}
 use Rattle.pq_rules.proofs.Characterisation.{each_append}
 use Rattle.pq_rules.proofs.Stack.{distinct_front, distinct_push}
 use Rattle.pq_rules.proofs.Weight.{Exact}
-use Rattle.pq_memo.specs.declared.frame.Frame.{Frame}
-use Rattle.pq_memo.specs.declared.demanded.Carried.{Carried}
+use Rattle.pq_memo.specs.declared.stepping.frame.Frame.{Frame}
+use Rattle.pq_memo.specs.declared.demand.demanded.Carried.{Carried}
 use Rattle.pq_memo.specs.Sound.{Memo}
 use Rattle.pq_memo.specs.Look.{IsUpToDate}
 use Rattle.pq_memo.specs.Table.{HasIn, IsSameTable}

@@ -7,7 +7,7 @@ use Rattle.std.proofs.lemmas.Option.{same_Some}
 use Rattle.std.proofs.lemmas.Bool.{cases_Bool}
 use Rattle.pq_rules.proofs.Weight.{Exact}
 use Rattle.pq_rules.specs.Relations.{In}
-use Rattle.pq_memo.specs.declared.frame.Frame.{Frame}
+use Rattle.pq_memo.specs.declared.stepping.frame.Frame.{Frame}
 use Rattle.pq_memo.specs.Frames.{frame_keys}
 use Rattle.pq_memo.specs.aux.Stack.{place_in, IsNoted, nth, IsMapped}
 use Rattle.pq_memo.proofs.Stacked.{keys_append}

@@ -6,7 +6,7 @@ use Rattle.std.specs.Ordering.{is_lt, is_le, ordering_reverse}
 use Rattle.std.specs.Cmp.{IsTotalOrder, tied_itself}
 use Rattle.std.specs.BTreeMap.Comparable.{le_lt_trans}
 use Rattle.std.proofs.lemmas.List.{get_or_default}
-use Rattle.pq_memo.specs.declared.frame.Frame.{Frame}
+use Rattle.pq_memo.specs.declared.stepping.frame.Frame.{Frame}
 
 less_is : (o : Ordering) → is_lt o ≡ true → o ≡ Less
 less_is Less h = refl

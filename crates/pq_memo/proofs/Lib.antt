@@ -30,3 +30,4 @@ pub mod Demanding
 pub mod Indexed
 pub mod Numbered
 pub mod SlotCalls
+pub mod Coded

@@ -20,7 +20,7 @@ use Rattle.pq_rules.specs.Value.{Means, Trace, Follows, RightRead, ComesBy}
 use Rattle.pq_rules.proofs.Rings.{Strict, each_in}
 use Rattle.pq_rules.specs.aux.Lists.{in_append_left, in_append_right}
 use Rattle.pq_rules.proofs.ListLemmas.{each_from}
-use Rattle.pq_memo.specs.declared.look.Why.TheVariants.{Fresh, Changed, Ring}
+use Rattle.pq_memo.specs.declared.table.look.Why.TheVariants.{Fresh, Changed, Ring}
 use Rattle.pq_memo.specs.Sound.{Memo, sources_at, at, file_at, asked_keys, HasReads}
 use Rattle.pq_memo.specs.Kept.{Differs, Kept}
 use Rattle.pq_memo.specs.Look.{FileChanged, HasChanged, IsStill, IsGreen, HasChangedRead, IsFresh, IsLapsedRing}

@@ -1,4 +1,4 @@
--- The slots of a table: what an index finds, and what a slot that is written or added changes.
+-- The slots of a table: what a number finds, and what a slot that is written or added changes.
 use Rattle.std.proofs.Common.{◌≡◌, ℕ, zero, suc, ◌<◌, List, [], ◌∷◌, ◌++◌, length, ◌⊎◌, Option, Some, None, IsSome, refl, sym, ◌∙◌, ap, subst, inl, inr, arith, Bool, true, false, cond}
 use Rattle.std.specs.declared.cmp.Ordering.{Ordering}
 use Rattle.std.specs.Ordering.{is_eq}
@@ -9,16 +9,15 @@ use Rattle.std.proofs.lemmas.Option.{same_Some}
 use Rattle.std.proofs.lemmas.Bool.{cases_Bool}
 use Rattle.pq_rules.proofs.Weight.{Exact}
 use Rattle.pq_memo.specs.Table.{key_at}
-use Rattle.pq_memo.specs.aux.Stack.{place_in}
 use Rattle.pq_memo.specs.aux.Slots.{value_at, with_at, IsNumbered}
 
 -- `Only slots n k` is that no slot but `n` has the key `k`
 abbrev Only : {K X : Type 0} → List (K × X) → ℕ → K → Type 0
 Only slots n k = (i : ℕ) → key_at slots i ≡ Some k → i ≡ n
 
-only_one : {K X : Type 0} (order : K → K → Ordering) (index : List (K × ℕ)) (slots : List (K × X)) → IsNumbered order index slots
+only_one : {K X : Type 0} (number : K → Option ℕ) (slots : List (K × X)) → IsNumbered number slots
     → (k : K) (n : ℕ) → key_at slots n ≡ Some k → Only slots n k
-only_one order index slots is k n there i h = same_Some i n (sym (is.known k i h) ∙ is.known k n there)
+only_one number slots is k n there i h = same_Some i n (sym (is.known k i h) ∙ is.known k n there)
 
 pub none_some : {A : Type 0} (x : A) → None ≡ Some x → ⊥
 none_some x e = cc
@@ -123,19 +122,19 @@ module _ {K : Type 0} (order : K → K → Ordering) (exact : Exact order) where
     ]
     lookup_more (e ∷ es) k q x other = ap (λ (r : Option X). cond (is_eq (order q e.0)) (Some e.1) r) (lookup_more es k q x other)
 
-    module _ (index : List (K × ℕ)) (slots : List (K × X)) (is : IsNumbered order index slots) where
+    module _ (number : K → Option ℕ) (slots : List (K × X)) (is : IsNumbered number slots) where
       -- what a key's number leads to
       pub found_value : (k : K) (n : ℕ) → key_at slots n ≡ Some k → lookup (is_at (order k)) slots ≡ value_at slots n
-      found_value k n there = lookup_there slots n k there (only_one order index slots is k n there)
+      found_value k n there = lookup_there slots n k there (only_one number slots is k n there)
 
-      pub not_found : (k : K) → place_in order index k ≡ None → lookup (is_at (order k)) slots ≡ None
+      pub not_found : (k : K) → number k ≡ None → lookup (is_at (order k)) slots ≡ None
       not_found k none = lookup_none slots k (λ n h. none_some n (sym none ∙ is.known k n h))
 
       pub has_slot : (k : K) (n : ℕ) → key_at slots n ≡ Some k → IsSome (lookup (is_at (order k)) slots)
       has_slot k n there = subst (λ (o : Option X). IsSome o) (sym (found_value k n there)) (has_value slots n k there)
 
       -- a slot that is written
-      pub numbered_with : (n : ℕ) (x : X) → IsNumbered order index (with_at slots n x)
+      pub numbered_with : (n : ℕ) (x : X) → IsNumbered number (with_at slots n x)
       numbered_with n x = record {
         found = λ k i e. key_with slots n x i ∙ is.found k i e;
         known = λ k i e. is.known k i (sym (key_with slots n x i) ∙ e);
@@ -147,27 +146,27 @@ module _ {K : Type 0} (order : K → K → Ordering) (exact : Exact order) where
         | inl eq ↦ (let e : k ≡ q = same_key k q eq in
             subst (λ (y : K). lookup (is_at (order y)) (with_at slots n x) ≡ Some x) e
             (lookup_there (with_at slots n x) n k (key_with slots n x n ∙ there)
-            (only_one order index (with_at slots n x) (numbered_with n x) k n (key_with slots n x n ∙ there)) ∙ value_with slots n x k there)
+            (only_one number (with_at slots n x) (numbered_with n x) k n (key_with slots n x n ∙ there)) ∙ value_with slots n x k there)
             ∙ sym (ap (λ (b : Bool). cond b (Some x) (lookup (is_at (order q)) slots)) eq))
         | inr ne ↦ lookup_other slots n x k q there (λ e. true_false (is_eq (order k q)) (tied k q (sym e)) ne)
             ∙ sym (ap (λ (b : Bool). cond b (Some x) (lookup (is_at (order q)) slots)) ne)
       ]
 
       -- a slot that is added
-      pub numbered_more : (after : List (K × ℕ)) (k : K) (x : X) → place_in order index k ≡ None
-          → ((q : K) → place_in order after q ≡ cond (is_eq (order k q)) (Some (length slots)) (place_in order index q))
-          → IsNumbered order after (slots ++ (k, x) ∷ [])
+      pub numbered_more : (after : K → Option ℕ) (k : K) (x : X) → number k ≡ None
+          → ((q : K) → after q ≡ cond (is_eq (order k q)) (Some (length slots)) (number q))
+          → IsNumbered after (slots ++ (k, x) ∷ [])
       numbered_more after k x none puts = record {
         found = λ q n e. elim (cases_Bool (is_eq (order k q))) [
-          | inl eq ↦ (let here : Some (length slots) ≡ Some n = sym (ap (λ (b : Bool). cond b (Some (length slots)) (place_in order index q)) eq) ∙ sym (puts q) ∙ e in
+          | inl eq ↦ (let here : Some (length slots) ≡ Some n = sym (ap (λ (b : Bool). cond b (Some (length slots)) (number q)) eq) ∙ sym (puts q) ∙ e in
               subst (λ (y : K). key_at (slots ++ (k, x) ∷ []) n ≡ Some y) (same_key k q eq)
               (subst (λ (i : ℕ). key_at (slots ++ (k, x) ∷ []) i ≡ Some k) (same_Some (length slots) n here) (key_last slots k x)))
-          | inr ne ↦ key_before slots k x n q (is.found q n (sym (ap (λ (b : Bool). cond b (Some (length slots)) (place_in order index q)) ne) ∙ sym (puts q) ∙ e))
+          | inr ne ↦ key_before slots k x n q (is.found q n (sym (ap (λ (b : Bool). cond b (Some (length slots)) (number q)) ne) ∙ sym (puts q) ∙ e))
         ];
         known = λ q n h. elim (key_after slots k x n q h) [
           | inl j ↦ (let ne : is_eq (order k q) ≡ false = apart q n j in
-              puts q ∙ ap (λ (b : Bool). cond b (Some (length slots)) (place_in order index q)) ne ∙ is.known q n j)
-          | inr j ↦ puts q ∙ ap (λ (b : Bool). cond b (Some (length slots)) (place_in order index q)) (tied k q (sym j.1)) ∙ ap (λ (i : ℕ). Some i) (sym j.0)
+              puts q ∙ ap (λ (b : Bool). cond b (Some (length slots)) (number q)) ne ∙ is.known q n j)
+          | inr j ↦ puts q ∙ ap (λ (b : Bool). cond b (Some (length slots)) (number q)) (tied k q (sym j.1)) ∙ ap (λ (i : ℕ). Some i) (sym j.0)
         ];
       }
         where
@@ -177,7 +176,7 @@ module _ {K : Type 0} (order : K → K → Ordering) (exact : Exact order) where
             | inr ne ↦ ne
           ]
 
-      pub lookup_added : (k : K) (x : X) → place_in order index k ≡ None → (q : K)
+      pub lookup_added : (k : K) (x : X) → number k ≡ None → (q : K)
           → lookup (is_at (order q)) (slots ++ (k, x) ∷ []) ≡ cond (is_eq (order k q)) (Some x) (lookup (is_at (order q)) slots)
       lookup_added k x none q = elim (cases_Bool (is_eq (order k q))) [
         | inl eq ↦ subst (λ (y : K). lookup (is_at (order y)) (slots ++ (k, x) ∷ []) ≡ Some x) (same_key k q eq) (here slots (λ n h. none_some n (sym none ∙ is.known k n h)))

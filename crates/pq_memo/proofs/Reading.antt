@@ -10,7 +10,7 @@ use Rattle.pq_rules.proofs.ListLemmas.{split}
 use Rattle.pq_memo.specs.Sound.{Memo}
 use Rattle.pq_memo.specs.Look.{IsUpToDate, HasChanged, IsStill, IsByReads, IsReached, WalksTo, HasChangedRead}
 use Rattle.pq_memo.specs.aux.Tests.{IsReachedAt, IsPass}
-use Rattle.pq_memo.specs.declared.state.Passed.{Passed}
+use Rattle.pq_memo.specs.declared.table.state.Passed.{Passed}
 use Rattle.pq_memo.specs.aux.Durabilities.{HasDurability, IsLeastRead}
 
 pub each_take : {A : Type 0} (P : A → Type 0) (xs : List A) (i : ℕ) (x : A) → i < length xs → x ≡ get_or xs i x → P x

@@ -13,7 +13,7 @@ use Rattle.pq_rules.specs.aux.Lists.{in_append, in_append_left, in_append_right}
 use Rattle.pq_rules.proofs.ListLemmas.{split, each_from, in_index, distinct_middle}
 use Rattle.pq_rules.proofs.Rotating.{below}
 use Rattle.pq_rules.proofs.Stack.{distinct_back}
-use Rattle.pq_memo.specs.declared.frame.Frame.{Frame}
+use Rattle.pq_memo.specs.declared.stepping.frame.Frame.{Frame}
 use Rattle.pq_memo.specs.Sound.{Memo}
 use Rattle.pq_memo.specs.Table.{HasIn}
 use Rattle.pq_memo.specs.Writes.{RingWritten, ring_keys}

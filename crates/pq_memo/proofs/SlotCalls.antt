@@ -11,7 +11,6 @@ use Rattle.pq_rules.proofs.Weight.{Exact}
 use Rattle.pq_memo.proofs.Numbered.{found_value, not_found, has_slot, numbered_with, lookup_with, numbered_more, lookup_added, key_within, same_key, tied}
 use Rattle.pq_memo.specs.Sound.{Memo}
 use Rattle.pq_memo.specs.Table.{key_at, memo_at, joined, IsSameTable}
-use Rattle.pq_memo.specs.aux.Stack.{place_in}
 use Rattle.pq_memo.specs.aux.Slots.{value_at, with_at, IsNumbered}
 use Rattle.pq_memo.specs.aux.Written.{HasRoom}
 
@@ -79,33 +78,33 @@ module _ {K M : Type 0} where
       ∙ set_with slots n e (F e.1) h is
       ∙ ap (λ (o : Option (Option M)). with_at slots n (F (joined o))) (sym (value_get slots n e h is))
 
-module _ {K V : Type 0} (order : K → K → Ordering) (exact : Exact order) (index : List (K × ℕ)) (slots now : List (K × Option (Memo K V)))
-    (is : IsNumbered order index slots) (view : slots ≡ now) where
-  here : IsNumbered order index now
-  here = subst (λ (l : List (K × Option (Memo K V))). IsNumbered order index l) view is
+module _ {K V : Type 0} (order : K → K → Ordering) (exact : Exact order) (number : K → Option ℕ) (slots now : List (K × Option (Memo K V)))
+    (is : IsNumbered number slots) (view : slots ≡ now) where
+  here : IsNumbered number now
+  here = subst (λ (l : List (K × Option (Memo K V))). IsNumbered number l) view is
 
   -- the memo of a slot
   pub memo_here : (slice : List (K × Option (Memo K V))) (k : K) (n : ℕ) (e : K × Option (Memo K V)) (m : Option (Memo K V)) → slice ≡ slots → key_at now n ≡ Some k
       → n < length slice → e ≡ get_or slice n e → m ≡ e.1 → m ≡ memo_at order now k
   memo_here slice k n e m value there h at made =
       made ∙ ap (λ (o : Option (Option (Memo K V))). joined o)
-      (sym (value_get slice n e h at) ∙ ap (λ (l : List (K × Option (Memo K V))). value_at l n) (value ∙ view) ∙ sym (found_value order exact index now here k n there))
+      (sym (value_get slice n e h at) ∙ ap (λ (l : List (K × Option (Memo K V))). value_at l n) (value ∙ view) ∙ sym (found_value order exact number now here k n there))
 
-  pub none_here : (k : K) (r : Option ℕ) → r ≡ place_in order index k → r ≡ None → lookup (is_at (order k)) now ≡ None
-  none_here k r noted none = not_found order exact index now here k (sym noted ∙ none)
+  pub none_here : (k : K) (r : Option ℕ) → r ≡ number k → r ≡ None → lookup (is_at (order k)) now ≡ None
+  none_here k r noted none = not_found order exact number now here k (sym noted ∙ none)
 
   pub room_here : (k : K) (n : ℕ) → key_at now n ≡ Some k → HasRoom order now k
-  room_here k n there = has_slot order exact index now here k n there
+  room_here k n there = has_slot order exact number now here k n there
 
   -- a slot that was written
   module _ (new : List (K × Option (Memo K V))) (k : K) (n : ℕ) (there : key_at now n ≡ Some k) where
-    pub numbered_written : (x : Option (Memo K V)) → new ≡ with_at slots n x → IsNumbered order index new
-    numbered_written x made = subst (λ (l : List (K × Option (Memo K V))). IsNumbered order index l) (sym made) (numbered_with order exact index slots is n x)
+    pub numbered_written : (x : Option (Memo K V)) → new ≡ with_at slots n x → IsNumbered number new
+    numbered_written x made = subst (λ (l : List (K × Option (Memo K V))). IsNumbered number l) (sym made) (numbered_with order exact number slots is n x)
 
     lookup_written : (x : Option (Memo K V)) → new ≡ with_at slots n x → (q : K) → lookup (is_at (order q)) new ≡ cond (is_eq (order k q)) (Some x) (lookup (is_at (order q)) now)
     lookup_written x made q =
         ap (λ (l : List (K × Option (Memo K V))). lookup (is_at (order q)) l) (made ∙ ap (λ (l : List (K × Option (Memo K V))). with_at l n x) view)
-        ∙ lookup_with order exact index now here k n x there q
+        ∙ lookup_with order exact number now here k n x there q
 
     pub memo_written : (x : Option (Memo K V)) → new ≡ with_at slots n x → (q : K) → memo_at order new q ≡ cond (is_eq (order k q)) x (memo_at order now q)
     memo_written x made q =
@@ -119,36 +118,36 @@ module _ {K V : Type 0} (order : K → K → Ordering) (exact : Exact order) (in
     memo_changed F made q =
         memo_written (F (joined (value_at slots n))) made q
         ∙ ap (λ (o : Option (Option (Memo K V))). cond (is_eq (order k q)) (F (joined o)) (memo_at order now q))
-        (ap (λ (l : List (K × Option (Memo K V))). value_at l n) view ∙ sym (found_value order exact index now here k n there))
+        (ap (λ (l : List (K × Option (Memo K V))). value_at l n) view ∙ sym (found_value order exact number now here k n there))
 
   -- a slot that was added
   module _ (k : K) (absent : lookup (is_at (order k)) now ≡ None) where
-    no_number : place_in order index k ≡ None
-    no_number = decide (place_in order index k) refl
+    no_number : number k ≡ None
+    no_number = decide (number k) refl
       where
-        decide : (o : Option ℕ) → place_in order index k ≡ o → place_in order index k ≡ None
+        decide : (o : Option ℕ) → number k ≡ o → number k ≡ None
         decide None e = e
-        decide (Some n) e = absurd (none_is (Option (Memo K V)) (subst (λ (o : Option (Option (Memo K V))). IsSome o) absent (has_slot order exact index now here k n (here.found k n e))))
+        decide (Some n) e = absurd (none_is (Option (Memo K V)) (subst (λ (o : Option (Option (Memo K V))). IsSome o) absent (has_slot order exact number now here k n (here.found k n e))))
 
-    pub numbered_added : (after : List (K × ℕ)) (x : Option (Memo K V)) (new kept slice : List (K × Option (Memo K V))) (copy : K) → copy ≡ k → kept ≡ slots → slice ≡ slots → new ≡ kept ++ (k, x) ∷ []
-        → ((q : K) → place_in order after q ≡ cond (is_eq (order copy q)) (Some (length slice)) (place_in order index q)) → IsNumbered order after new
+    pub numbered_added : (after : K → Option ℕ) (x : Option (Memo K V)) (new kept slice : List (K × Option (Memo K V))) (copy : K) → copy ≡ k → kept ≡ slots → slice ≡ slots → new ≡ kept ++ (k, x) ∷ []
+        → ((q : K) → after q ≡ cond (is_eq (order copy q)) (Some (length slice)) (number q)) → IsNumbered after new
     numbered_added after x new kept slice copy copied same value made puts =
-        subst (λ (l : List (K × Option (Memo K V))). IsNumbered order after l) (sym (made ∙ ap (λ (l : List (K × Option (Memo K V))). l ++ (k, x) ∷ []) same))
-        (numbered_more order exact index slots is after k x no_number
-        (subst (λ (l : List (K × Option (Memo K V))). (q : K) → place_in order after q ≡ cond (is_eq (order k q)) (Some (length l)) (place_in order index q)) value
-        (subst (λ (y : K). (q : K) → place_in order after q ≡ cond (is_eq (order y q)) (Some (length slice)) (place_in order index q)) copied puts)))
+        subst (λ (l : List (K × Option (Memo K V))). IsNumbered after l) (sym (made ∙ ap (λ (l : List (K × Option (Memo K V))). l ++ (k, x) ∷ []) same))
+        (numbered_more order exact number slots is after k x no_number
+        (subst (λ (l : List (K × Option (Memo K V))). (q : K) → after q ≡ cond (is_eq (order k q)) (Some (length l)) (number q)) value
+        (subst (λ (y : K). (q : K) → after q ≡ cond (is_eq (order y q)) (Some (length slice)) (number q)) copied puts)))
 
     pub lookup_new : (x : Option (Memo K V)) (new kept : List (K × Option (Memo K V))) → kept ≡ slots → new ≡ kept ++ (k, x) ∷ [] → (q : K)
         → lookup (is_at (order q)) new ≡ cond (is_eq (order k q)) (Some x) (lookup (is_at (order q)) now)
     lookup_new x new kept same made q =
         ap (λ (l : List (K × Option (Memo K V))). lookup (is_at (order q)) l) (made ∙ ap (λ (l : List (K × Option (Memo K V))). l ++ (k, x) ∷ []) (same ∙ view))
-        ∙ lookup_added order exact index now here k x no_number q
+        ∙ lookup_added order exact number now here k x no_number q
 
--- an index that finds the same numbers
-pub numbered_as : {K X : Type 0} (order : K → K → Ordering) (index after : List (K × ℕ)) (slots kept : List (K × X)) → kept ≡ slots
-    → ((q : K) → place_in order after q ≡ place_in order index q) → IsNumbered order index slots → IsNumbered order after kept
-numbered_as {K} {X} order index after slots kept same puts is =
-    subst (λ (l : List (K × X)). IsNumbered order after l) (sym same)
+-- numbers that are the same
+pub numbered_as : {K X : Type 0} (number after : K → Option ℕ) (slots kept : List (K × X)) → kept ≡ slots
+    → ((q : K) → after q ≡ number q) → IsNumbered number slots → IsNumbered after kept
+numbered_as {K} {X} number after slots kept same puts is =
+    subst (λ (l : List (K × X)). IsNumbered after l) (sym same)
     (record { found = λ k n e. is.found k n (sym (puts k) ∙ e); known = λ k n h. puts k ∙ is.known k n h })
 
 -- what was added to the list, for the table
@@ -172,20 +171,20 @@ module _ {K V : Type 0} (order : K → K → Ordering) (exact : Exact order) (be
     rooms_added q h = subst (λ (o : Option (Option (Memo K V))). IsSome o) (sym (added q)) (some_cond (is_eq (order k q)) None (lookup (is_at (order q)) before) h)
 
 -- a slot without a memo, which was added for a key that had none
-module _ {K V : Type 0} (order : K → K → Ordering) (exact : Exact order) (index after : List (K × ℕ)) (slots now new kept slice : List (K × Option (Memo K V)))
-    (is : IsNumbered order index slots) (view : slots ≡ now) (key copy shared : K) (copied : copy ≡ key) (shares : shared ≡ key)
-    (had : None ≡ place_in order index copy) (same : kept ≡ slots) (made : new ≡ kept ++ (shared, None) ∷ []) where
+module _ {K V : Type 0} (order : K → K → Ordering) (exact : Exact order) (number after : K → Option ℕ) (slots now new kept slice : List (K × Option (Memo K V)))
+    (is : IsNumbered number slots) (view : slots ≡ now) (key copy shared : K) (copied : copy ≡ key) (shares : shared ≡ key)
+    (had : None ≡ number copy) (same : kept ≡ slots) (made : new ≡ kept ++ (shared, None) ∷ []) where
   absent : lookup (is_at (order key)) now ≡ None
-  absent = none_here order exact index slots now is view key None (had ∙ ap (λ (k : K). place_in order index k) copied) refl
+  absent = none_here order exact number slots now is view key None (had ∙ ap (λ (k : K). number k) copied) refl
 
   made_so : new ≡ kept ++ (key, None) ∷ []
   made_so = made ∙ ap (λ (k : K). kept ++ (k, None) ∷ []) shares
 
   added : (q : K) → lookup (is_at (order q)) new ≡ cond (is_eq (order key q)) (Some None) (lookup (is_at (order q)) now)
-  added = lookup_new order exact index slots now is view key absent None new kept same made_so
+  added = lookup_new order exact number slots now is view key absent None new kept same made_so
 
-  pub fresh_numbered : slice ≡ slots → ((q : K) → place_in order after q ≡ cond (is_eq (order copy q)) (Some (length slice)) (place_in order index q)) → IsNumbered order after new
-  fresh_numbered value puts = numbered_added order exact index slots now is view key absent after None new kept slice copy copied same value made_so puts
+  pub fresh_numbered : slice ≡ slots → ((q : K) → after q ≡ cond (is_eq (order copy q)) (Some (length slice)) (number q)) → IsNumbered after new
+  fresh_numbered value puts = numbered_added order exact number slots now is view key absent after None new kept slice copy copied same value made_so puts
 
   pub fresh_same : IsSameTable (memo_at order now) (memo_at order new)
   fresh_same = same_added order exact now new key added absent
@@ -196,28 +195,9 @@ module _ {K V : Type 0} (order : K → K → Ordering) (exact : Exact order) (in
   pub fresh_rooms : (q : K) → HasRoom order now q → HasRoom order new q
   fresh_rooms = rooms_added order exact now new key added
 
--- a key whose number was found in the index
-pub known_room : {K V : Type 0} (order : K → K → Ordering) → Exact order → (index : List (K × ℕ)) (slots kept : List (K × Option (Memo K V))) → IsNumbered order index slots
-    → (key copy : K) (n : ℕ) → copy ≡ key → Some n ≡ place_in order index copy → kept ≡ slots → HasRoom order kept key
-known_room {K} {V} order exact index slots kept is key copy n copied had same =
+-- a key that has a number
+pub known_room : {K V : Type 0} (order : K → K → Ordering) → Exact order → (number : K → Option ℕ) (slots kept : List (K × Option (Memo K V))) → IsNumbered number slots
+    → (key copy : K) (n : ℕ) → copy ≡ key → Some n ≡ number copy → kept ≡ slots → HasRoom order kept key
+known_room {K} {V} order exact number slots kept is key copy n copied had same =
     subst (λ (l : List (K × Option (Memo K V))). HasRoom order l key) (sym same)
-    (has_slot order exact index slots is key n (is.found key n (sym (had ∙ ap (λ (k : K). place_in order index k) copied))))
-
--- an index into which a key was put that it lacked, and from which the key was taken
-pub freed_numbered : {K X : Type 0} (order : K → K → Ordering) → Exact order → (index claimed freed : List (K × ℕ)) (slots kept slice : List (K × X)) → IsNumbered order index slots
-    → (key copy : K) → copy ≡ key → None ≡ place_in order index copy → kept ≡ slots
-    → ((q : K) → place_in order claimed q ≡ cond (is_eq (order copy q)) (Some (length slice)) (place_in order index q))
-    → ((q : K) → place_in order freed q ≡ cond (is_eq (order key q)) None (place_in order claimed q)) → IsNumbered order freed kept
-freed_numbered {K} order exact index claimed freed slots kept slice is key copy copied had same puts frees = numbered_as order index freed slots kept same back is
-  where
-    free : None ≡ place_in order index key
-    free = had ∙ ap (λ (k : K). place_in order index k) copied
-
-    put : (q : K) → place_in order claimed q ≡ cond (is_eq (order key q)) (Some (length slice)) (place_in order index q)
-    put q = puts q ∙ ap (λ (k : K). cond (is_eq (order k q)) (Some (length slice)) (place_in order index q)) copied
-
-    back : (q : K) → place_in order freed q ≡ place_in order index q
-    back q = elim (cases_Bool (is_eq (order key q))) [
-      | inl eq ↦ frees q ∙ ap (λ (b : Bool). cond b None (place_in order claimed q)) eq ∙ free ∙ ap (λ (k : K). place_in order index k) (same_key order exact key q eq)
-      | inr ne ↦ frees q ∙ ap (λ (b : Bool). cond b None (place_in order claimed q)) ne ∙ put q ∙ ap (λ (b : Bool). cond b (Some (length slice)) (place_in order index q)) ne
-    ]
+    (has_slot order exact number slots is key n (is.found key n (sym (had ∙ ap (λ (k : K). number k) copied))))

@@ -9,9 +9,9 @@ use Rattle.pq_rules.specs.Relations.{In}
 use Rattle.pq_rules.specs.aux.Evaluator.{has}
 use Rattle.pq_rules.proofs.ListLemmas.{last_length}
 use Rattle.pq_rules.proofs.Weight.{Exact, has_in, in_has, number_below, one_le}
-use Rattle.pq_memo.specs.declared.frame.Frame.{Frame}
-use Rattle.pq_memo.specs.declared.frame.Stage.{Stage}
-use Rattle.pq_memo.specs.declared.frame.Stage.TheVariants.{Walking, Waiting}
+use Rattle.pq_memo.specs.declared.stepping.frame.Frame.{Frame}
+use Rattle.pq_memo.specs.declared.stepping.frame.Stage.{Stage}
+use Rattle.pq_memo.specs.declared.stepping.frame.Stage.TheVariants.{Walking, Waiting}
 use Rattle.pq_memo.specs.Sound.{Memo}
 use Rattle.pq_memo.specs.Frames.{frame_keys}
 use Rattle.pq_memo.specs.Demand.{IsVerified}

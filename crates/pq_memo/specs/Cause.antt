@@ -6,8 +6,8 @@ use Rattle.pq_rules.specs.declared.turn.Answer.{Answer}
 use Rattle.pq_rules.specs.Turns.{Machine}
 use Rattle.pq_rules.specs.Relations.{Each}
 use Rattle.pq_rules.specs.Value.{Means}
-use Rattle.pq_memo.specs.declared.look.Why.{Why}
-use Rattle.pq_memo.specs.declared.look.Why.TheVariants.{Fresh, Changed, Ring}
+use Rattle.pq_memo.specs.declared.table.look.Why.{Why}
+use Rattle.pq_memo.specs.declared.table.look.Why.TheVariants.{Fresh, Changed, Ring}
 use Rattle.pq_memo.specs.Sound.{Memo, at}
 use Rattle.pq_memo.specs.Kept.{Differs}
 use Rattle.pq_memo.specs.Look.{HasLapsed, IsOnItsRing}

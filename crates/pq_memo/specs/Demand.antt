@@ -4,7 +4,7 @@ use Rattle.std.specs.declared.cmp.Ordering.{Ordering}
 use Rattle.pq_inputs.specs.Sources.{Sources}
 use Rattle.pq_rules.specs.Turns.{Machine}
 use Rattle.pq_rules.specs.Relations.{In}
-use Rattle.pq_memo.specs.declared.demanded.Carried.{Carried}
+use Rattle.pq_memo.specs.declared.demand.demanded.Carried.{Carried}
 use Rattle.pq_memo.specs.Sound.{Memo}
 use Rattle.pq_memo.specs.Cause.{IsCause}
 use Rattle.pq_memo.specs.Table.{HasIn}

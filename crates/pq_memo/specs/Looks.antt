@@ -2,9 +2,9 @@
 use Rattle.std.specs.Prelude.{ℕ, List}
 use Rattle.pq_inputs.specs.Sources.{Sources}
 use Rattle.pq_rules.specs.Turns.{Machine}
-use Rattle.pq_memo.specs.declared.look.Look.{Look}
-use Rattle.pq_memo.specs.declared.look.Look.TheVariants.{Usable, Green, Walk, Run}
-use Rattle.pq_memo.specs.declared.look.Why.TheVariants.{Fresh, Changed, Ring}
+use Rattle.pq_memo.specs.declared.table.look.Look.{Look}
+use Rattle.pq_memo.specs.declared.table.look.Look.TheVariants.{Usable, Green, Walk, Run}
+use Rattle.pq_memo.specs.declared.table.look.Why.TheVariants.{Fresh, Changed, Ring}
 use Rattle.pq_memo.specs.Sound.{Memo}
 use Rattle.pq_memo.specs.Look.{IsUpToDate, IsGreen, WalksTo, HasChangedRead, IsFresh, IsLapsedRing}
 

@@ -4,12 +4,12 @@ use Rattle.std.specs.declared.cmp.Ordering.{Ordering}
 use Rattle.pq_inputs.specs.Sources.{Sources, Table}
 use Rattle.pq_rules.specs.declared.turn.Answer.{Answer}
 use Rattle.pq_rules.specs.Turns.{Machine}
-use Rattle.pq_memo.specs.declared.look.Why.{Why}
-use Rattle.pq_memo.specs.declared.look.Why.TheVariants.{Fresh, Changed, Ring}
-use Rattle.pq_memo.specs.declared.frame.Stage.{Stage}
-use Rattle.pq_memo.specs.declared.frame.Stage.TheVariants.{Walking, Waiting}
-use Rattle.pq_memo.specs.declared.frame.Step.{Step}
-use Rattle.pq_memo.specs.declared.frame.Step.TheVariants.{Finished, Needs, Starts, GoesOn}
+use Rattle.pq_memo.specs.declared.table.look.Why.{Why}
+use Rattle.pq_memo.specs.declared.table.look.Why.TheVariants.{Fresh, Changed, Ring}
+use Rattle.pq_memo.specs.declared.stepping.frame.Stage.{Stage}
+use Rattle.pq_memo.specs.declared.stepping.frame.Stage.TheVariants.{Walking, Waiting}
+use Rattle.pq_memo.specs.declared.stepping.frame.Step.{Step}
+use Rattle.pq_memo.specs.declared.stepping.frame.Step.TheVariants.{Finished, Needs, Starts, GoesOn}
 use Rattle.pq_memo.specs.Sound.{Memo}
 use Rattle.pq_memo.specs.Look.{IsUpToDate, HasChangedRead, IsFresh, IsLapsedRing}
 use Rattle.pq_memo.specs.Table.{memo_at, HasIn, IsSameTable}

@@ -5,4 +5,5 @@ pub mod Written
 pub mod Frames
 pub mod Demand
 pub mod Stack
+pub mod Numbers
 pub mod Slots

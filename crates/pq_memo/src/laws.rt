@@ -9,19 +9,23 @@ ghost use Rattle.pq_memo.specs.Sound.{Memo, Sound, HasReads, at};
 ghost use Rattle.pq_memo.specs.Look.{IsUpToDate, IsGreen, IsFresh, HasChangedRead, IsLapsedRing};
 ghost use Rattle.pq_memo.specs.Cause.{IsCause};
 ghost use Rattle.pq_memo.specs.Table.{memo_at, HasIn, KeptOver, IsNext};
-ghost use Rattle.pq_memo.specs.declared.look.Why.{Why};
-ghost use Rattle.pq_memo.specs.declared.look.Why.TheVariants.{Fresh, Changed, Ring};
+ghost use Rattle.pq_memo.specs.declared.table.look.Why.{Why};
+ghost use Rattle.pq_memo.specs.declared.table.look.Why.TheVariants.{Fresh, Changed, Ring};
 ghost use Rattle.pq_memo.specs.Frames.{Came};
 ghost use Rattle.pq_memo.specs.Steps.{IsWhy};
 
-use crate::memos::Memos;
+use crate::table::memos::Memos;
 use pq_rules::Rules;
 
 /// A table that keeps its invariant is sound, and it keeps the invariant when the inputs get one
 /// more revision.
 pub fn kept_is_sound<R: Rules>(_memos: &Memos<R>)
+    // A table that keeps the invariant is sound. Each memo's answer is the key's value at the
+    // revision at which it was verified and at the one at which it changed. Its reads are those of
+    // its rule in order, and its durability is at most that of each input below it.
     ensures sound { (inputs : Table) → KeptOver R.Key.cmp (R.machine _memos.now.rules) inputs _memos.now.places →
         Sound R.Key.cmp (R.machine _memos.now.rules) inputs.history inputs.revision (HasIn (memo_at R.Key.cmp _memos.now.places)) }
+    // A table keeps the invariant when the inputs get one more revision.
     ensures next { (before after : Table) → IsNext before after → KeptOver R.Key.cmp (R.machine _memos.now.rules) before _memos.now.places →
         KeptOver R.Key.cmp (R.machine _memos.now.rules) after _memos.now.places }
 {}
@@ -29,12 +33,15 @@ pub fn kept_is_sound<R: Rules>(_memos: &Memos<R>)
 /// What `look` answers: a memo that is verified now or green is right now, and a rule that has to
 /// be started has a cause.
 pub fn look_is_right<R: Rules>(_memos: &Memos<R>)
+    // `verified`, `green`: A memo that is verified now, or valid, has the key's value now.
     ensures verified { (inputs : Table) → KeptOver R.Key.cmp (R.machine _memos.now.rules) inputs _memos.now.places →
         (k : R.Key) (memo : Memo R.Key R.Value) → HasIn (memo_at R.Key.cmp _memos.now.places) k memo → memo.verified ≡ inputs.revision →
         Means (at R.Key.cmp (R.machine _memos.now.rules) inputs.history inputs.revision) k memo.answer }
     ensures green { (inputs : Table) → length inputs.history ≡ inputs.revision + 1 → KeptOver R.Key.cmp (R.machine _memos.now.rules) inputs _memos.now.places →
         (k : R.Key) (green : IsGreen (R.machine _memos.now.rules) inputs.history inputs.revision (HasIn (memo_at R.Key.cmp _memos.now.places)) k) →
         Means (at R.Key.cmp (R.machine _memos.now.rules) inputs.history inputs.revision) k green.0.answer }
+    // `fresh`, `changed`, `ring`: A rule that has to be started has that cause: no memo; the first
+    // recorded read that changed; a ring through the key that may have changed.
     ensures fresh { (inputs : Table) (k : R.Key) → IsFresh (R.machine _memos.now.rules) (HasIn (memo_at R.Key.cmp _memos.now.places)) k →
         IsCause R.Key.cmp (R.machine _memos.now.rules) inputs.history inputs.revision (HasIn (memo_at R.Key.cmp _memos.now.places)) k Fresh }
     ensures changed { (inputs : Table) → length inputs.history ≡ inputs.revision + 1 → KeptOver R.Key.cmp (R.machine _memos.now.rules) inputs _memos.now.places →
@@ -48,6 +55,8 @@ pub fn look_is_right<R: Rules>(_memos: &Memos<R>)
 /// rule has come to a value, the reads made for it are what `publish` requires. Where it asks, the
 /// key's frame waits.
 pub fn turns_are_right<R: Rules>(_memos: &Memos<R>)
+    // `starts`, `ends`: A rule that is started comes to its first turn, and a rule that ended has
+    // made the reads that `publish` requires.
     ensures starts { (inputs : Table) → KeptOver R.Key.cmp (R.machine _memos.now.rules) inputs _memos.now.places →
         (k : R.Key) (why : Why R.Key) → IsWhy (R.machine _memos.now.rules) inputs.history inputs.revision (HasIn (memo_at R.Key.cmp _memos.now.places)) k why →
         Came R.Key.cmp (R.machine _memos.now.rules) inputs.history inputs.revision (HasIn (memo_at R.Key.cmp _memos.now.places)) k ((R.machine _memos.now.rules).start k) [] }

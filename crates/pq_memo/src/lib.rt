@@ -15,47 +15,33 @@
 //! Definitions: `specs/Sound` (memos, soundness), `specs/Kept` (the invariant), `specs/Look` and
 //! `specs/Looks` (what `look` answers), `specs/Cause`, `specs/Table` and `specs/Writes` (what calls
 //! write), `specs/Frames` and `specs/Steps`, `specs/Demand` and `specs/EngineView` (what a demand
-//! answers and leaves). Modules: `entry` (what is kept of a key), `look`, `state` (private tests),
-//! `slots` (keys by number), `recorded` (a read), `memos` (the table, reading), `writes` (marking
-//! and publishing), `ring` and `placed` (publishing a ring), `compared` (old answers and a ring),
-//! `member` and `unpublished` (what goes in, and what comes back), `frame` and `restored` (a step),
-//! `round` (frames in a round), `engine` and `demanded` (what a demand answers), `demand` (bringing
-//! a key up to date), `hand` (reads of a rule without a frame), `confirm` and `trail` (marking valid
-//! memos without frames), `stack` (its frames), `usable` (for callers that keep frames), `laws`.
+//! answers and leaves).
+//!
+//! Folders, each over those before it:
+//!
+//! - `table`: what is kept of each key, and what is read of it.
+//! - `writing`: marking a memo as verified, and publishing.
+//! - `stepping`: frames, and one step of a frame.
+//! - `marking`: the valid memos below a frame.
+//! - `demand`: bringing a key up to date, and the engine.
+//!
+//! `laws` has the laws of the table.
 #![tactic(auto)]
 
-mod compared;
-mod confirm;
 mod demand;
-mod demanded;
-mod engine;
-mod entry;
-mod frame;
-mod hand;
 mod laws;
-mod look;
-mod member;
-mod memos;
-mod placed;
-mod recorded;
-mod restored;
-mod ring;
-mod round;
-mod slots;
-mod stack;
-mod state;
-mod trail;
-mod unpublished;
-mod usable;
-mod writes;
+mod marking;
+mod stepping;
+mod table;
+mod writing;
 
-pub use demanded::{Carried, Demanded};
-pub use engine::{Engine, engine_is_sound};
-pub use frame::{Frame, Stage, Step};
+pub use demand::demanded::{Carried, Demanded};
+pub use demand::engine::{Engine, engine_is_sound};
 pub use laws::{kept_is_sound, look_is_right, turns_are_right};
-pub use look::{Look, Why};
-pub use member::Member;
-pub use memos::Memos;
-pub use stack::Stack;
-pub use trail::Trail;
-pub use unpublished::{Unpublished, UnpublishedRing};
+pub use marking::trail::Trail;
+pub use stepping::frame::{Frame, Stage, Step};
+pub use stepping::stack::Stack;
+pub use table::look::{Look, Why};
+pub use table::member::Member;
+pub use table::memos::Memos;
+pub use table::unpublished::{Unpublished, UnpublishedRing};

@@ -30,6 +30,7 @@ impl NameId {
 
     /// The number, which is also the index of the name in the list of the table's names.
     pub fn number(self) -> u32
+        // Contracts see the number.
         ensures { result ≡ self }
     {
         self.number

@@ -37,6 +37,7 @@ impl Model for Names {
 impl Names {
     /// A table without names, which takes its memory from `alloc`.
     pub fn new(alloc: Global) -> Names
+        // A new table has no name.
         ensures { result ≡ [] }
     {
         Names {
@@ -55,10 +56,14 @@ impl Names {
     /// - `Full` exactly where the text is new and the table has `MAX_NAMES` names.
     /// - `Memory` where the text is new and an allocation fails.
     pub fn intern(&mut self, text: &str) -> Result<NameId, NamesFault>
+        // `known`, `added`: A known text gets its number and nothing changes. A new text gets the
+        // count of the names before it.
         ensures known { (id : ℕ) → slice_get self.old id ≡ Some text.now →
             (result ≡ Ok id) × (self.new ≡ self.old) }
         ensures added { ¬ Contains self.old text.now →
             IfOk result (λ id. (id ≡ length self.old) × (self.new ≡ self.old ++ text.now ∷ [])) }
+        // `full`, `refused`: `Full` exactly for a new text in a table of 1,048,576 names. After an
+        // error the table is as it was.
         ensures full { IsErrOf result NamesFault.Full ↔
             ((length self.old ≡ max_names) × ¬ Contains self.old text.now) }
         ensures refused { OnErr result (self.new ≡ self.old) }
@@ -75,6 +80,8 @@ impl Names {
 
     /// The number of `text`, or `None` where the table has no such name. It takes no memory.
     pub fn find(&self, text: &str) -> Option<NameId>
+        // The number of the text, or `None` if it is no name: `find` and `text` are inverse to each
+        // other.
         ensures { (id : ℕ) → (result ≡ Some id) ↔ (slice_get self.now id ≡ Some text.now) }
     {
         match search(&self.order, &self.texts, text) {
@@ -85,7 +92,9 @@ impl Names {
 
     /// The text of the name with the number `id`.
     pub fn text(&self, id: NameId) -> &str
+        // The table has a name with this number.
         requires { id < length self.now }
+        // `text`, `once`: The text of the name with this number. No other number has that name.
         ensures text { slice_get self.now id ≡ Some result.now }
         ensures once { (other : ℕ) → slice_get self.now other ≡ Some result.now → other ≡ id }
     {
@@ -94,6 +103,8 @@ impl Names {
 
     /// Whether `text` is the name with the number `number`. It takes one comparison.
     pub fn is_at(&self, number: usize, text: &str) -> bool
+        // `is`, `once`: Whether a text is the name with this number. No other number has that name
+        // then.
         ensures is { IsTrue result ↔ (slice_get self.now number ≡ Some text.now) }
         ensures once { IsTrue result → (other : ℕ) → slice_get self.now other ≡ Some text.now → other ≡ number }
     {
@@ -105,6 +116,7 @@ impl Names {
 
     /// The number of names.
     pub fn len(&self) -> usize
+        // `count`, `within`: The count of the names, which is at most 1,048,576.
         ensures count { result ≡ length self.now }
         ensures within { result ≤ max_names }
     {
@@ -113,6 +125,7 @@ impl Names {
 
     /// Whether the table has no names.
     pub fn is_empty(&self) -> bool
+        // Whether the table has no name, both ways.
         ensures { IsTrue result ↔ (self.now ≡ []) }
     {
         self.texts.is_empty()

@@ -49,6 +49,7 @@ impl Text {
     /// A copy of `text`.
     #[inline]
     pub fn new(alloc: Global, text: &str) -> Result<Text, Memory>
+        // A text is its bytes, wherever they are kept.
         ensures copy { IfOk result (λ t. t ≡ text.now) }
     {
         match Short::new(text) {
@@ -62,6 +63,7 @@ impl Text {
     /// The text of `text`. A string of more than 22 bytes is kept and not copied.
     #[inline]
     pub fn from_string(alloc: Global, text: String) -> Result<Text, Memory>
+        // A text is its bytes, wherever they are kept.
         ensures same { IfOk result (λ t. t ≡ string_bytes text) }
     {
         if text.len() <= INLINE {
@@ -83,6 +85,7 @@ impl Text {
     /// The text, to read.
     #[inline]
     pub fn as_str(&self) -> &str
+        // A text is its bytes, wherever they are kept.
         ensures same { result.now ≡ self.now }
     {
         match &self.bytes {
@@ -95,6 +98,7 @@ impl Text {
     /// can be counted.
     #[inline]
     pub fn copy(&self) -> Result<Text, Memory>
+        // A text is its bytes, wherever they are kept.
         ensures copy { IfOk result (λ t. t ≡ self.now) }
     {
         match &self.bytes {

@@ -9,17 +9,17 @@ use Rattle.pq_core.specs.Works.{DoneView, WorkView}
 use Rattle.pq_core.specs.Outboxes.{Listed, taken_front, HasNoRoom, HasLostEnd}
 use Rattle.pq_core.specs.Ledger.{Ledger, Client, Entry, with_entry, with_entries, with_outbox, entry_closed, closed, opened}
 use Rattle.pq_core.specs.Moves.{Opens, Accepts, TurnsEntry, Turns, TurnsIf, Edits, is_turn, edited, Starts, LooksFor, Gives, Starves, WithdrawsEntry, Withdraws, Releases, Closes, new_entry, with_new}
-use Rattle.pq_core.specs.declared.label.Label.{Label}
-use Rattle.pq_core.specs.declared.request.Request.{Request}
-use Rattle.pq_core.specs.declared.fault.AcceptRefused.{AcceptRefused}
-use Rattle.pq_core.specs.declared.fault.EditRefused.{EditRefused}
-use Rattle.pq_core.specs.declared.fault.WithdrawFault.{WithdrawFault}
-use Rattle.pq_core.specs.declared.fault.LookFault.{LookFault}
-use Rattle.pq_core.specs.declared.fault.LookFault.TheVariants.{NoRun, Memory as LookMemory}
-use Rattle.pq_core.specs.declared.moves.Move.{Move}
-use Rattle.pq_core.specs.declared.moves.Move.TheVariants.{Carry, Blocked, Stepped as MoveStepped, Answered as MoveAnswered, Stopped as MoveStopped}
-use Rattle.pq_core.specs.declared.moves.Released.{Released}
-use Rattle.pq_core.specs.declared.moves.Released.TheVariants.{Put as ReleasedPut, Full as ReleasedFull, Gone as ReleasedGone, Nothing as ReleasedNothing}
+use Rattle.pq_core.specs.declared.values.label.Label.{Label}
+use Rattle.pq_core.specs.declared.values.request.Request.{Request}
+use Rattle.pq_core.specs.declared.values.fault.AcceptRefused.{AcceptRefused}
+use Rattle.pq_core.specs.declared.values.fault.EditRefused.{EditRefused}
+use Rattle.pq_core.specs.declared.values.fault.WithdrawFault.{WithdrawFault}
+use Rattle.pq_core.specs.declared.values.fault.LookFault.{LookFault}
+use Rattle.pq_core.specs.declared.values.fault.LookFault.TheVariants.{NoRun, Memory as LookMemory}
+use Rattle.pq_core.specs.declared.values.moves.Move.{Move}
+use Rattle.pq_core.specs.declared.values.moves.Move.TheVariants.{Carry, Blocked, Stepped as MoveStepped, Answered as MoveAnswered, Stopped as MoveStopped}
+use Rattle.pq_core.specs.declared.values.moves.Released.{Released}
+use Rattle.pq_core.specs.declared.values.moves.Released.TheVariants.{Put as ReleasedPut, Full as ReleasedFull, Gone as ReleasedGone, Nothing as ReleasedNothing}
 use Rattle.pq_core.proofs.Lists.{some_one, get_set, get_append, get_within, get_there, set_long, append_long}
 use Rattle.pq_core.proofs.Writes.{set_back}
 use Rattle.pq_play.specs.World.{replies_of}

@@ -12,16 +12,16 @@ use Rattle.pq_core.specs.Outboxes.{Listed, taken_front, HasNoRoom, HasLostEnd, T
 use Rattle.pq_core.specs.Ledger.{Ledger}
 use Rattle.pq_core.specs.RightReply.{answer_by}
 use Rattle.pq_core.specs.Moves.{Reaches, Opens, Accepts, Edits, Starts, Looks, RunAt, Runs, NoneRuns, IsMade, IsOf, Gives, Starves, Withdraws, Releases, Closes, TakesOut}
-use Rattle.pq_core.specs.declared.label.Label.{Label}
-use Rattle.pq_core.specs.declared.request.Request.{Request}
-use Rattle.pq_core.specs.declared.fault.OpenRefused.{OpenRefused}
-use Rattle.pq_core.specs.declared.fault.EditRefused.{EditRefused}
-use Rattle.pq_core.specs.declared.fault.GiveFault.{GiveFault}
-use Rattle.pq_core.specs.declared.fault.GiveFault.TheVariants.{NotThisRun, Memory as GiveMemory}
-use Rattle.pq_core.specs.declared.fault.GiveRefused.{GiveRefused}
-use Rattle.pq_core.specs.declared.fault.WithdrawFault.{WithdrawFault}
-use Rattle.pq_core.specs.declared.moves.Move.{Move}
-use Rattle.pq_core.specs.declared.moves.Released.{Released}
+use Rattle.pq_core.specs.declared.values.label.Label.{Label}
+use Rattle.pq_core.specs.declared.values.request.Request.{Request}
+use Rattle.pq_core.specs.declared.values.fault.OpenRefused.{OpenRefused}
+use Rattle.pq_core.specs.declared.values.fault.EditRefused.{EditRefused}
+use Rattle.pq_core.specs.declared.values.fault.GiveFault.{GiveFault}
+use Rattle.pq_core.specs.declared.values.fault.GiveFault.TheVariants.{NotThisRun, Memory as GiveMemory}
+use Rattle.pq_core.specs.declared.values.fault.GiveRefused.{GiveRefused}
+use Rattle.pq_core.specs.declared.values.fault.WithdrawFault.{WithdrawFault}
+use Rattle.pq_core.specs.declared.values.moves.Move.{Move}
+use Rattle.pq_core.specs.declared.values.moves.Released.{Released}
 use Rattle.pq_core.proofs.Lists.{some_one, none_some, get_within, get_there, same_or_other}
 use Rattle.pq_play.specs.World.{World, replies_of, own_point}
 use Rattle.pq_play.specs.Steps.{Steps, OpenAnswered, EditAnswered, empty_list}

@@ -15,7 +15,7 @@ use Rattle.pq_core.specs.Moves.{Closes}
 use Rattle.pq_core.proofs.Lists.{some_one, get_within, get_there, get_set, map_long, same_or_other}
 use Rattle.pq_play.specs.World.{World}
 use Rattle.pq_play.specs.Steps.{LeadsTo}
-use Rattle.pq_core.specs.declared.request.Request.{Request}
+use Rattle.pq_core.specs.declared.values.request.Request.{Request}
 use Rattle.pq_play.specs.Results.{PlayedView, accepted_of, played_of}
 use Rattle.pq_play.specs.aux.Seats.{SeatView, left_taken, seat_taken, seat_accepted, Seated}
 use Rattle.pq_play.specs.aux.Running.{done_of}

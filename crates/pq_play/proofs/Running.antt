@@ -11,19 +11,19 @@ use Rattle.pq_core.specs.Works.{DoneView, WorkView}
 use Rattle.pq_core.specs.Ledger.{Place, Waiting, Running, Ready, Put, Dropped, Fate, Ledger, Client, Entry, with_client, with_entry, with_entries, place_closed, entry_closed, opened}
 use Rattle.pq_core.specs.Kept.{InputsKept}
 use Rattle.pq_core.specs.Moves.{Opens, Accepts, Edits, TurnsEntry, Turns, TurnsIf, Withdraws, WithdrawsEntry, Starts, LooksFor, Gives, Starves, Releases, Closes, TakesOut, RunAt, Runs, NoneRuns, IsOf, IsMade, changed, edited, is_turn, first_place, new_entry, place_ended, ended, with_out, out_of}
-use Rattle.pq_core.specs.declared.request.Request.{Request}
-use Rattle.pq_core.specs.declared.request.Want.{Want}
-use Rattle.pq_core.specs.declared.request.Want.TheVariants.{Demand, Fixed}
-use Rattle.pq_core.specs.declared.outcome.Outcome.{Outcome}
-use Rattle.pq_core.specs.declared.fault.OpenRefused.{OpenRefused}
-use Rattle.pq_core.specs.declared.fault.AcceptRefused.{AcceptRefused}
-use Rattle.pq_core.specs.declared.fault.EditRefused.{EditRefused}
-use Rattle.pq_core.specs.declared.fault.WithdrawFault.{WithdrawFault}
-use Rattle.pq_core.specs.declared.label.Label.{Label}
-use Rattle.pq_core.specs.declared.moves.Move.{Move}
-use Rattle.pq_core.specs.declared.moves.Move.TheVariants.{Carry, Blocked, Stepped as MoveStepped, Answered as MoveAnswered, Stopped as MoveStopped}
-use Rattle.pq_core.specs.declared.moves.Released.{Released}
-use Rattle.pq_core.specs.declared.moves.Released.TheVariants.{Put as ReleasedPut, Full as ReleasedFull, Gone as ReleasedGone, Nothing as ReleasedNothing}
+use Rattle.pq_core.specs.declared.values.request.Request.{Request}
+use Rattle.pq_core.specs.declared.values.request.Want.{Want}
+use Rattle.pq_core.specs.declared.values.request.Want.TheVariants.{Demand, Fixed}
+use Rattle.pq_core.specs.declared.values.outcome.Outcome.{Outcome}
+use Rattle.pq_core.specs.declared.values.fault.OpenRefused.{OpenRefused}
+use Rattle.pq_core.specs.declared.values.fault.AcceptRefused.{AcceptRefused}
+use Rattle.pq_core.specs.declared.values.fault.EditRefused.{EditRefused}
+use Rattle.pq_core.specs.declared.values.fault.WithdrawFault.{WithdrawFault}
+use Rattle.pq_core.specs.declared.values.label.Label.{Label}
+use Rattle.pq_core.specs.declared.values.moves.Move.{Move}
+use Rattle.pq_core.specs.declared.values.moves.Move.TheVariants.{Carry, Blocked, Stepped as MoveStepped, Answered as MoveAnswered, Stopped as MoveStopped}
+use Rattle.pq_core.specs.declared.values.moves.Released.{Released}
+use Rattle.pq_core.specs.declared.values.moves.Released.TheVariants.{Put as ReleasedPut, Full as ReleasedFull, Gone as ReleasedGone, Nothing as ReleasedNothing}
 use Rattle.pq_core.proofs.Lists.{some_one, none_some, get_longer, get_within, get_there, set_same, set_other, same_or_other}
 use Rattle.pq_play.specs.aux.Running.{Run, run_in, run_of, run_among, run_at, RunsKept, IsKeptFor, OutOf, IsPut, IsSame, KeepsMove}
 

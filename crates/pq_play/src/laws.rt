@@ -9,5 +9,6 @@ use pq_rules::Rules;
 
 /// A client that is closed has the same outbox after every list of events: nothing enters it.
 pub fn closed_along<R: Rules>(_rules: &R)
+    // Along every list of events a closed client's outbox stays the same.
     ensures { (room : ℕ) (events : List (Event R.Key)) (w v : World R.Key R.Value) → LeadsTo room R.Key.cmp (R.machine _rules.now) _rules.now events w v → LeavesClosed w.ledger v.ledger }
 {}

@@ -83,6 +83,11 @@ pub fn play<R: Rules>(
     room: usize,
     events: &[Event<R::Key>],
 ) -> Result<Played<R::Key, R::Value>, Memory>
+    // For every list of events on a fresh core, without files or clients: the events lead, one step
+    // each, to a world whose accepted requests, replies taken and last revision are those that it
+    // returns. After each step the headline holds. Each reply that a client took as the i-th names
+    // the client, the number i and the request accepted as the i-th, and is right. What a closed
+    // client's outbox has stays.
     ensures { IfOk result (λ played. (w : World R.Key R.Value) × LeadsTo room R.Key.cmp (R.machine rules) rules events.now beginning w × (played ≡ played_of w)) }
 {
     let fresh = Inputs::new(alloc)?;

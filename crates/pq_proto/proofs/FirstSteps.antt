@@ -4,7 +4,7 @@ use Rattle.std.specs.Prelude.{slice_get}
 use Rattle.std.specs.Option.{option_map_or}
 use Rattle.std.proofs.lemmas.List.{drop_all, drop_more}
 use Rattle.pq_links.specs.declared.places.TypePart.{TypePart}
-use Rattle.pq_schema.specs.declared.resolved.ResolvedReference.{ResolvedReference}
+use Rattle.pq_schema.specs.declared.queries.resolved.ResolvedReference.{ResolvedReference}
 use Rattle.pq_proto.specs.Types.{TypeOf, is_part, no_type, referred, type_to}
 use Rattle.pq_proto.specs.aux.Firsts.{first_at, IsFirsts}
 

@@ -19,7 +19,7 @@ use Rattle.pq_syntax.specs.declared.tree.Statement.{Statement}
 use Rattle.pq_syntax.specs.declared.tree.Statement.TheVariants.{Import, Package, Option as OptionStatement, Message, Field, MapField, Oneof, ReservedNumbers, ReservedNames, Enum, Value, Service, Method, Extend}
 use Rattle.pq_proto.specs.aux.Views.{kind_named}
 use Rattle.pq_syntax.specs.Places.{Item}
-use Rattle.pq_schema.specs.declared.resolved.ResolvedReference.{ResolvedReference}
+use Rattle.pq_schema.specs.declared.queries.resolved.ResolvedReference.{ResolvedReference}
 use Rattle.pq_syntax.specs.declared.parts.Setting.{Setting}
 use Rattle.pq_proto.specs.Types.{TypeOf}
 use Rattle.pq_proto.specs.Descriptor.{FieldOf, message_by, messages_in}

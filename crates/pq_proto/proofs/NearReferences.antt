@@ -15,7 +15,7 @@ use Rattle.pq_links.specs.declared.places.Part.TheVariants as part
 use Rattle.pq_links.specs.declared.places.TypePart.{TypePart}
 use Rattle.pq_links.specs.declared.places.TypePart.TheVariants as types
 use Rattle.pq_schema.specs.OfItem.{IsOfAnother, IsOfItem}
-use Rattle.pq_schema.specs.declared.resolved.ResolvedReference.{ResolvedReference}
+use Rattle.pq_schema.specs.declared.queries.resolved.ResolvedReference.{ResolvedReference}
 use Rattle.pq_proto.specs.Definition.{definition_at, holds, type_item}
 use Rattle.pq_proto.specs.declared.definition.TypeItem.{TypeItem}
 

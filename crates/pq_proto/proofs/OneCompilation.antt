@@ -19,11 +19,11 @@ use Rattle.pq_links.specs.declared.files.ParsedFile.{ParsedFile}
 use Rattle.pq_schema.specs.Compile.{AreResolved}
 use Rattle.pq_schema.specs.ScopeContents.{Scope}
 use Rattle.pq_schema.specs.SchemaSum.{SchemaMeans}
-use Rattle.pq_schema.specs.declared.definitions.Definition.{Definition}
-use Rattle.pq_schema.specs.declared.resolved.ResolvedReference.{ResolvedReference}
+use Rattle.pq_schema.specs.declared.define.definitions.Definition.{Definition}
+use Rattle.pq_schema.specs.declared.queries.resolved.ResolvedReference.{ResolvedReference}
 use Rattle.pq_checks.specs.ChecksSum.{ChecksMeans}
 use Rattle.pq_checks.specs.Compile.{AreFaults}
-use Rattle.pq_checks.specs.declared.fault.Fault.{Fault}
+use Rattle.pq_checks.specs.declared.errors.fault.Fault.{Fault}
 use Rattle.pq_checks.proofs.EachAnswered.{Asks, has_answer}
 use Rattle.pq_checks.proofs.ChecksAnswered.{checks_answer as answer_of_checks, diagnostics_answer as answer_of_diagnostics, faults_one as one_faults, linked_answer as answer_of_links, resolved_answer as answer_of_resolved, resolved_one as one_resolved, scope_answer as answer_of_scope}
 use Rattle.pq_proto.specs.Compile.{Compiles, IsDefinition, IsDescriptor, definition_by, descriptor_by, has_tree, is_failed, offset_at, read_in, symbols_of}

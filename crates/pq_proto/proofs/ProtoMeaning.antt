@@ -26,10 +26,10 @@ use Rattle.pq_links.specs.Files.{items_in, nodes_in, nodes_of}
 use Rattle.pq_links.specs.declared.file_items.FileItems.{FileItems}
 use Rattle.pq_links.specs.declared.files.ParsedFile.{ParsedFile}
 use Rattle.pq_schema.specs.SchemaSum.{SchemaSum, SchemaMeans}
-use Rattle.pq_schema.specs.declared.resolved.ResolvedReference.{ResolvedReference}
+use Rattle.pq_schema.specs.declared.queries.resolved.ResolvedReference.{ResolvedReference}
 use Rattle.pq_checks.specs.ChecksSum.{ChecksSum, ChecksMeans}
 use Rattle.pq_checks.specs.Compile.{AreFaults}
-use Rattle.pq_checks.specs.declared.fault.Fault.{Fault}
+use Rattle.pq_checks.specs.declared.errors.fault.Fault.{Fault}
 use Rattle.pq_proto.specs.Compile.{Compiles, IsDefinition, IsDescriptor, has_tree, is_failed, location_of, offset_at, read_in, symbols_of}
 use Rattle.pq_proto.specs.Definition.{definition_at}
 use Rattle.pq_proto.specs.Descriptor.{descriptor}

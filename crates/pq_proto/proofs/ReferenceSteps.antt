@@ -5,7 +5,7 @@ use Rattle.std.proofs.lemmas.List.{at_drop_all, at_drop_more}
 use Rattle.std.proofs.lemmas.Bool.{cond-true, cond-false}
 use Rattle.pq_syntax.specs.declared.tree.Node.{Node}
 use Rattle.pq_links.specs.declared.places.TypePart.{TypePart}
-use Rattle.pq_schema.specs.declared.resolved.ResolvedReference.{ResolvedReference}
+use Rattle.pq_schema.specs.declared.queries.resolved.ResolvedReference.{ResolvedReference}
 use Rattle.pq_proto.specs.Types.{is_part, no_type, referred, type_to}
 use Rattle.pq_links.specs.Place.{place}
 use Rattle.pq_links.specs.declared.places.Part.TheVariants as part

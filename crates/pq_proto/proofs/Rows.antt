@@ -16,8 +16,8 @@ use Rattle.pq_syntax.specs.declared.tree.Statement.TheVariants as statements
 use Rattle.pq_schema.specs.Definitions.{package_of, camel}
 use Rattle.pq_links.specs.Place.{type_span}
 use Rattle.pq_links.specs.declared.places.TypePart.TheVariants as parts
-use Rattle.pq_schema.specs.declared.resolution.Resolution.TheVariants as resolutions
-use Rattle.pq_schema.specs.declared.resolved.ResolvedReference.{ResolvedReference}
+use Rattle.pq_schema.specs.declared.search.resolution.Resolution.TheVariants as resolutions
+use Rattle.pq_schema.specs.declared.queries.resolved.ResolvedReference.{ResolvedReference}
 use Rattle.pq_proto.specs.Bodies.{body_at, each}
 use Rattle.pq_proto.specs.Types.{referred}
 use Rattle.pq_proto.specs.Descriptor.{descriptor, messages_in}

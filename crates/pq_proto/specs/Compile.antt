@@ -21,14 +21,14 @@ use Rattle.pq_links.specs.declared.files.ParsedFile.{ParsedFile}
 use Rattle.pq_links.specs.declared.files.ParsedFile.TheVariants.{Absent, Present}
 use Rattle.pq_schema.specs.Compile.{defs_at, IsScope, AreResolved}
 use Rattle.pq_schema.specs.ScopeContents.{Scope}
-use Rattle.pq_schema.specs.declared.resolved.ResolvedReference.{ResolvedReference}
+use Rattle.pq_schema.specs.declared.queries.resolved.ResolvedReference.{ResolvedReference}
 use Rattle.pq_checks.specs.Codes.{severity}
 use Rattle.pq_checks.specs.Compile.{AreFaults}
 use Rattle.pq_checks.specs.Diagnostics.{AreDiagnostics}
-use Rattle.pq_checks.specs.declared.code.Severity.{Severity}
-use Rattle.pq_checks.specs.declared.code.Severity.TheVariants.{Error, Information}
-use Rattle.pq_checks.specs.declared.fault.Fault.{Fault}
-use Rattle.pq_checks.specs.declared.diagnostic.Diagnosed.{Diagnosed}
+use Rattle.pq_checks.specs.declared.errors.code.Severity.{Severity}
+use Rattle.pq_checks.specs.declared.errors.code.Severity.TheVariants.{Error, Information}
+use Rattle.pq_checks.specs.declared.errors.fault.Fault.{Fault}
+use Rattle.pq_checks.specs.declared.errors.diagnostic.Diagnosed.{Diagnosed}
 use Rattle.pq_proto.specs.Definition.{definition_at}
 use Rattle.pq_proto.specs.Descriptor.{descriptor}
 use Rattle.pq_proto.specs.Symbols.{symbols}

@@ -19,7 +19,7 @@ use Rattle.pq_syntax.specs.declared.tree.Statement.TheVariants.{Import, Message,
 use Rattle.pq_syntax.specs.Places.{Item}
 use Rattle.pq_schema.specs.Definitions.{qualified, entry_name, package_of}
 use Rattle.pq_links.specs.declared.places.TypePart.TheVariants as parts
-use Rattle.pq_schema.specs.declared.resolved.ResolvedReference.{ResolvedReference}
+use Rattle.pq_schema.specs.declared.queries.resolved.ResolvedReference.{ResolvedReference}
 use Rattle.pq_proto.specs.Bodies.{Body, Empty, Holds, body_of, each}
 use Rattle.pq_proto.specs.Lists.{list_data, texts_data}
 use Rattle.pq_proto.specs.Settings.{options_data, settings_in}

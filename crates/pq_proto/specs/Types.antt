@@ -5,9 +5,9 @@ use Rattle.std.specs.Str.{bytes_eq}
 use Rattle.serde_json.specs.Data.{Data, null, string}
 use Rattle.pq_links.specs.declared.places.TypePart.{TypePart}
 use Rattle.pq_links.specs.declared.places.TypePart.TheVariants as parts
-use Rattle.pq_schema.specs.declared.resolution.Resolution.{Resolution}
-use Rattle.pq_schema.specs.declared.resolution.Resolution.TheVariants as resolutions
-use Rattle.pq_schema.specs.declared.resolved.ResolvedReference.{ResolvedReference}
+use Rattle.pq_schema.specs.declared.search.resolution.Resolution.{Resolution}
+use Rattle.pq_schema.specs.declared.search.resolution.Resolution.TheVariants as resolutions
+use Rattle.pq_schema.specs.declared.queries.resolved.ResolvedReference.{ResolvedReference}
 
 -- `text_or_null t` is the text `t`, or null if there is none
 abbrev pub text_or_null : Option (List ℕ) → Data

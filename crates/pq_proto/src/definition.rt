@@ -90,6 +90,8 @@ pub fn definition_at(
     references: &ResolvedReferences,
     offset: usize,
 ) -> Result<Option<TypeItem>, Memory>
+    // The file and item of the type that the first reference which holds the offset resolves to,
+    // both ends included; `None` if there is none.
     ensures { IfOk result (λ t. t ≡ definition_at (nodes_of file.now) offset references.now) }
 {
     first_at(file, near(file, references, offset), offset)

@@ -123,6 +123,8 @@ pub fn descriptor_text(
     nodes: &[Node],
     references: &[ResolvedReference],
 ) -> Result<Text, Memory>
+    // The text is the compact JSON text of the descriptor of the file, by its statements and
+    // resolved references.
     ensures { IfOk result (λ t. t ≡ compact_text (descriptor references.now file.now nodes.now)) }
 {
     let sizes = sizes_of(alloc, nodes)?;

@@ -56,6 +56,7 @@ pub(crate) fn only_at(file: &ParsedFile, offset: usize) -> Option<usize>
 /// The position of `offset` in a file that is read as `file`. An absent file has the first position
 /// alone.
 pub fn position_in(file: &ParsedFile, offset: usize) -> Position
+    // The position of an offset in a file as it is read.
     ensures { result ≡ position_in file.now offset }
 {
     match file {

@@ -16,6 +16,7 @@ pub struct Place {
 impl Place {
     /// The place of the position `position`.
     pub fn of(position: Position) -> Place
+        // The place has the line and the column of the position.
         ensures { result ≡ record { line = position.line; character = position.character } }
     {
         Place {
@@ -26,6 +27,7 @@ impl Place {
 
     /// The position of the place.
     pub fn position(self) -> Position
+        // The position has the line and the column of the place.
         ensures { result ≡ record { line = self.line; character = self.character } }
     {
         Position {

@@ -19,7 +19,7 @@ use crate::queries::{
 use crate::value::{Location, ProtoValue};
 use pq_checks::{CheckPart, ChecksQuery, DiagnosticsPart, DiagnosticsQuery};
 use pq_links::{ImportsQuery, ItemsQuery, LinkedQuery, Linking, ParseQuery};
-use pq_rules::{Answer, Query, Rules, Sum, Text, Turn, advance_of, start_of};
+use pq_rules::{Answer, Query, Rules, Sum, Text, Turn, advance_of, code_with, start_of, text_code};
 use pq_schema::{DefsQuery, ResolvedPart, ResolvedQuery, ScopePart, ScopeQuery};
 use std::alloc::Global;
 
@@ -76,7 +76,7 @@ fn copy_location(location: &Location) -> Result<Location, Memory>
 }
 
 impl Rules for ProtoRules {
-    ghost use Rattle.pq_proto.specs.aux.RuleSet.{proto_rules, proto_reach};
+    ghost use Rattle.pq_proto.specs.aux.RuleSet.{proto_code, proto_rules, proto_reach};
     ghost use Rattle.pq_proto.specs.aux.KeyOrder.{key_exact};
     ghost use Rattle.pq_proto.specs.aux.ProtoLaws.{proto_lawful, proto_inputs};
     ghost use Rattle.pq_proto.specs.aux.Exact.{value_exact};
@@ -90,6 +90,8 @@ impl Rules for ProtoRules {
     ghost machine = { λ s. proto_rules };
 
     ghost reach = { λ s files k. proto_reach files k };
+
+    ghost codes = { proto_code };
 
     ghost lawful = { λ s files. proto_lawful _ files key_exact };
 
@@ -112,6 +114,27 @@ impl Rules for ProtoRules {
             ProtoKey::Descriptor(_) => DescriptorQuery::LEVEL,
             ProtoKey::Symbols(_) => SymbolsQuery::LEVEL,
             ProtoKey::Definition(_, _) => DefinitionQuery::LEVEL,
+        }
+    }
+
+    fn code(&self, key: &ProtoKey) -> u64 {
+        match key {
+            ProtoKey::Input(file) => code_with(text_code(file), 0),
+            ProtoKey::Parse(file) => code_with(text_code(file), 1),
+            ProtoKey::Items(file) => code_with(text_code(file), 2),
+            ProtoKey::Imports(file) => code_with(text_code(file), 3),
+            ProtoKey::Linked(file) => code_with(text_code(file), 4),
+            ProtoKey::Defs(file) => code_with(text_code(file), 5),
+            ProtoKey::Scope(file) => code_with(text_code(file), 6),
+            ProtoKey::Resolved(file) => code_with(text_code(file), 7),
+            ProtoKey::Checks(file) => code_with(text_code(file), 8),
+            ProtoKey::Diagnostics(file) => code_with(text_code(file), 9),
+            ProtoKey::Descriptor(file) => code_with(text_code(file), 10),
+            ProtoKey::Symbols(file) => code_with(text_code(file), 11),
+            ProtoKey::Definition(file, place) => {
+                let line = code_with(text_code(file), place.line as u64);
+                code_with(line, place.character as u64)
+            }
         }
     }
 

@@ -114,6 +114,7 @@ fn print_symbol(
 /// `Memory` is an error, after an allocation failure.
 #[tactic(auto, using(crate::proofs::ListSteps::list_tokens))]
 pub fn symbols_text(alloc: Global, file: &ParsedFile) -> Result<Text, Memory>
+    // The text is the compact JSON text of the list of the symbols of the file as it is read.
     ensures { IfOk result (λ t. t ≡ symbols_of file.now) }
 {
     let nodes = statements(file);

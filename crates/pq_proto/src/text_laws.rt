@@ -16,6 +16,9 @@ use pq_lex::{offsets_of_lines, positions_of_lines};
 /// the text's end is its position in that text, and the offset at a place is the largest one at or
 /// before that place in the text, or `None` if the text has no such line.
 pub fn places_of_text()
+    // `position`, `offset`: In a file with a text, each offset up to the text's end has its
+    // position in that text. The offset at a place is the largest one at or before it in the text,
+    // or `None` if the text has no such line.
     ensures position { (text : List ℕ) (offset : ℕ) → offset ≤ length text → position_in (read_file (Some text)) offset ≡ position_of text offset }
     ensures offset { (text : List ℕ) (place : PlaceContents) → IsOffset text (record { line = place.line; character = place.character }) (offset_at (read_file (Some text)) place) }
 {
@@ -26,5 +29,7 @@ pub fn places_of_text()
 /// In the tree of a text, the statements of the nested bodies in text order, each with those around
 /// it, are its places. So an item is in the body of the innermost item that contains it.
 pub fn bodies_are_places()
+    // In the tree of a text, the statements of the nested bodies in text order, each with those
+    // around it, are its places. So descriptors and symbols nest as full names and scopes do.
     ensures { (text : List ℕ) (nodes : List Node) → IsTree text nodes → placed_in [] (body_of nodes) ≡ places nodes }
 {}

@@ -1,3 +1,4 @@
+pub mod Codes
 pub mod Settled
 pub mod Rings
 pub mod Uniqueness

@@ -11,6 +11,7 @@ pub fn copy_answer<R: Rules>(
     alloc: Global,
     answer: &Answer<R::Key, R::Value>,
 ) -> Result<Answer<R::Key, R::Value>, Memory>
+    // A copy is an equal answer.
     ensures copy { IfOk result (λ a. a ≡ answer.now) }
 {
     match answer {
@@ -21,6 +22,7 @@ pub fn copy_answer<R: Rules>(
 
 /// Whether contracts see `a` and `b` as one key.
 pub fn is_same_key<R: Rules>(_rules: &R, a: &R::Key, b: &R::Key) -> bool
+    // Whether contracts see the two keys as one, both ways.
     ensures { IsTrue result ↔ (a.now ≡ b.now) }
 {
     a == b
@@ -46,6 +48,7 @@ pub fn same_answer<R: Rules>(
     a: &Answer<R::Key, R::Value>,
     b: &Answer<R::Key, R::Value>,
 ) -> bool
+    // Two answers are the same exactly if contracts see the same.
     ensures same { IsTrue result ↔ (a.now ≡ b.now) }
 {
     match (a, b) {

@@ -33,10 +33,12 @@ pub trait EmbeddedIn<S: Sum>: Query<AnyKey = S::Key, AnyAnswer = Answer<S::Key, 
 
     /// Makes `part` one of the sum.
     fn part(part: Self::Part) -> S::Part
+        // The part of the query as one of the sum, by `as_part`.
         ensures part { result ≡ as_part part };
 
     /// Makes `value` one of the sum.
     fn value(value: Self::Value) -> S::Value
+        // The value of the query as one of the sum, by `as_value`.
         ensures value { result ≡ as_value value };
 }
 
@@ -59,6 +61,7 @@ pub fn start_of<S: Sum, Q: EmbeddedIn<S>>(
     query: &Q,
     key: &Q::Key,
 ) -> Result<Turn<S::Key, S::Part, S::Value>, Memory>
+    // The turn of a query, as a turn of the sum that the query is embedded in.
     ensures turn { IfOk result (λ t. t ≡ embedded Q.as_part Q.as_value (Q.starts query.now key.now)) }
 {
     Ok(turn_of::<S, Q>(query.start(alloc, key)?))
@@ -72,7 +75,9 @@ pub fn advance_of<S: Sum, Q: EmbeddedIn<S>>(
     part: Q::Part,
     answer: &Answer<S::Key, S::Value>,
 ) -> Result<Turn<S::Key, S::Part, S::Value>, S::Part>
+    // The turn of a query, as a turn of the sum that the query is embedded in.
     ensures turn { IfOk result (λ t. t ≡ embedded Q.as_part Q.as_value (Q.advances query.now part answer.now)) }
+    // After an allocation failure the part comes back, as a part of the sum.
     ensures back { IfErr result (λ p. p ≡ Q.as_part part) }
 {
     match query.advance(alloc, part, answer) {

@@ -11,6 +11,7 @@
 
 mod answer_table;
 mod answers;
+mod code;
 mod embed;
 mod laws;
 mod lists;
@@ -22,6 +23,7 @@ mod sums;
 mod turn;
 
 pub use answers::{copy_answer, is_same_key, same_answer};
+pub use code::{code_with, text_code};
 pub use embed::{EmbeddedIn, Sum, advance_of, start_of};
 pub use laws::{cycle_passes_on, cycle_waits_round, keys_that_wait_round, lists_of_std, one_value};
 pub use lists::push;

@@ -41,6 +41,7 @@ pub trait Query {
         alloc: Global,
         key: &Self::Key,
     ) -> Result<Turn<Self::AnyKey, Self::Part, Self::Value>, Memory>
+        // The first turn of the key, by `starts`.
         ensures turn { IfOk result (λ t. t ≡ starts self.now key.now) };
 
     /// Goes on from `part` with the answer to the key that it asked: the next turn. If an
@@ -51,12 +52,15 @@ pub trait Query {
         part: Self::Part,
         answer: &Self::AnyAnswer,
     ) -> Result<Turn<Self::AnyKey, Self::Part, Self::Value>, Self::Part>
+        // The turn of the part after the answer, by `advances`.
         ensures turn { IfOk result (λ t. t ≡ advances self.now part answer.now) }
+        // After an allocation failure the part comes back.
         ensures back { IfErr result (λ p. p ≡ part) };
 
     /// What is left for the rule to ask at `part`: a pair that each further question lowers, in
     /// lexicographic order.
     fn left(&self, part: &Self::Part) -> (u32, u64)
+        // What is left to ask at the part, by `lefts`.
         ensures left { (result.0, result.1) ≡ lefts self.now part.now };
 
     /// Each further question lowers what is left.

@@ -234,7 +234,9 @@ pub fn input_answer<R: Rules>(
     inputs: &Inputs,
     key: &R::Key,
 ) -> Result<Answer<R::Key, R::Value>, Memory>
+    // The key is an input: its level is 0.
     requires { (R.machine rules.now).level key.now ≡ 0 }
+    // The answer is the value of the key at the sources now.
     ensures { IfOk result (λ a. Means (over R.Key.cmp (R.machine rules.now) inputs.now.files) key.now a) }
 {
     let value = rules.text(alloc, text_of(rules, inputs, key))?;
@@ -388,6 +390,8 @@ pub fn from_scratch<R: Rules>(
     inputs: &Inputs,
     key: &R::Key,
 ) -> Result<Answer<R::Key, R::Value>, Memory>
+    // The answer is the value of the key at the sources now, for every rule set that keeps the laws
+    // of `Rules`.
     ensures value { IfOk result (λ a. Means (over R.Key.cmp (R.machine rules.now) inputs.now.files) key.now a) }
 {
     if rules.level(key) == 0 {

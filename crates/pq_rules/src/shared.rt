@@ -25,6 +25,7 @@ impl<T> Model for Shared<T> {
 impl<T> Shared<T> {
     /// The value.
     pub fn get(&self) -> &T
+        // Contracts see the value behind the pointer.
         ensures value { result.now ≡ self.now }
     {
         &*self.value
@@ -34,6 +35,7 @@ impl<T> Shared<T> {
 impl<T: Drop> Shared<T> {
     /// Shares `value`. If the allocation fails, `value` is dropped.
     pub fn new(alloc: Global, value: T) -> Result<Self, Memory>
+        // Contracts see the value behind the pointer.
         ensures value { IfOk result (λ s. s ≡ value) }
     {
         Ok(Shared {
@@ -44,6 +46,7 @@ impl<T: Drop> Shared<T> {
     /// The same value once more. It takes no memory: `Memory` says that the count of copies is used
     /// up.
     pub fn copy(&self) -> Result<Self, Memory>
+        // A copy is equal.
         ensures copy { IfOk result (λ s. s ≡ self.now) }
     {
         Ok(Shared {

@@ -9,6 +9,7 @@ ghost use Rattle.pq_rules.specs.sums.RuleSet.{text_read, number_read, sum_turn, 
 mod names;
 mod queries;
 
+use crate::code::text_code;
 use crate::query::Query;
 use crate::rules::Rules;
 use crate::turn::{Answer, Memory, Turn};
@@ -104,7 +105,7 @@ fn of_total(turn: Turn<SumsKey, (), u32>) -> Turn<SumsKey, SumsPart, SumsValue>
 }
 
 impl Rules for Sums {
-    ghost use Rattle.pq_rules.specs.sums.RuleSet.{sums, sums_reach};
+    ghost use Rattle.pq_rules.specs.sums.RuleSet.{sums, sums_code, sums_reach};
     ghost use Rattle.pq_rules.specs.aux.sums.Laws.{sums_lawful};
     ghost use Rattle.pq_rules.specs.aux.sums.Exact.{sums_inputs, key_exact, value_exact};
 
@@ -118,6 +119,8 @@ impl Rules for Sums {
 
     ghost reach = { λ s files k. sums_reach files k };
 
+    ghost codes = { sums_code };
+
     ghost lawful = { λ s files. sums_lawful _ files key_exact };
 
     ghost inputs = { λ s k. sums_inputs k };
@@ -129,6 +132,14 @@ impl Rules for Sums {
             SumsKey::Input(_) => 0,
             SumsKey::Sum(_) => SumQuery::<Sums>::LEVEL,
             SumsKey::Total(_) => TotalQuery::<Sums>::LEVEL,
+        }
+    }
+
+    fn code(&self, key: &SumsKey) -> u64 {
+        match key {
+            SumsKey::Input(name) => text_code(name),
+            SumsKey::Sum(name) => text_code(name),
+            SumsKey::Total(name) => text_code(name),
         }
     }
 

@@ -35,6 +35,7 @@ impl<K> Ring<K> {
     pub fn new(alloc: Global, keys: Vec<K>) -> Result<Self, Memory>
     where
         K: Drop,
+        // Contracts see the list of keys behind the pointer.
         ensures keys { IfOk result (λ r. r ≡ keys.items) }
     {
         Ok(Ring {
@@ -44,6 +45,7 @@ impl<K> Ring<K> {
 
     /// The keys, the least first.
     pub fn keys(&self) -> &[K]
+        // Contracts see the list of keys behind the pointer.
         ensures keys { result.now ≡ self.now }
     {
         self.keys.get()
@@ -54,6 +56,7 @@ impl<K> Ring<K> {
     pub fn copy(&self) -> Result<Self, Memory>
     where
         K: Drop,
+        // A copy is equal.
         ensures copy { IfOk result (λ r. r ≡ self.now) }
     {
         Ok(Ring {

@@ -8,7 +8,7 @@ use Rattle.std.specs.declared.cmp.Ordering.{Ordering}
 use Rattle.std.specs.declared.cmp.Ordering.TheVariants.{Equal}
 use Rattle.std.proofs.lemmas.Cmp.{tied_itself}
 use Rattle.std.proofs.lemmas.List.{get_or_default}
-use Rattle.pq_schema.specs.declared.definitions.Definition.{Definition}
+use Rattle.pq_schema.specs.declared.define.definitions.Definition.{Definition}
 use Rattle.pq_schema.specs.aux.CodeOrder.{codes_tie, codes_total}
 use Rattle.pq_schema.specs.aux.Fronts.{AreAlike, BeginAlike, IsMet, IsParted, IsSeen}
 use Rattle.pq_schema.specs.aux.Index.{IsIndexOf, entries, entry_order}

@@ -9,7 +9,7 @@ use Rattle.std.proofs.lemmas.List.{get_or_default, get_or-append_right, get_or-t
 use Rattle.std.proofs.lemmas.List.Folds.{Any-from_list_any, list_any_at}
 use Rattle.std.proofs.lemmas.Slice.Eq.{starts_is}
 use Rattle.pq_schema.specs.Definitions.{qualified}
-use Rattle.pq_schema.specs.declared.scope.FileDefs.{FileDefs}
+use Rattle.pq_schema.specs.declared.scope.scope.FileDefs.{FileDefs}
 use Rattle.pq_schema.specs.aux.Along.{AllMeet, HasMet, IsAlong, IsPlain, IsStart, Meets, scope_before}
 use Rattle.pq_schema.specs.aux.Grouping.{IsIndex, root_order}
 use Rattle.pq_schema.specs.aux.InPackage.{dotted}

@@ -8,7 +8,7 @@ use Rattle.std.proofs.lemmas.List.{get_or_default, get_or_past, length-take-le, 
 use Rattle.std.proofs.lemmas.List.Folds.{find-append}
 use Rattle.pq_schema.specs.Definitions.{qualified}
 use Rattle.pq_schema.specs.Resolution.{is_package, prefixes, scopes}
-use Rattle.pq_schema.specs.declared.scope.FileDefs.{FileDefs}
+use Rattle.pq_schema.specs.declared.scope.scope.FileDefs.{FileDefs}
 use Rattle.pq_schema.specs.aux.Along.{IsAlong, IsLastStart, IsPlain, IsStart, scope_before}
 use Rattle.pq_schema.proofs.Cases.{either}
 

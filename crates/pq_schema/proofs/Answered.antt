@@ -1,6 +1,6 @@
 -- What was looked up in the open scopes: answers that are kept, and scopes that close and open.
-use Rattle.std.proofs.Common.{◌≡◌, ◌⊎◌, ℕ, zero, suc, ◌+◌, ◌-◌, ◌<◌, ◌≤◌, Bool, true, false, cond, nat_lt, List, [], ◌∷◌, ◌++◌, length, drop, get_or, map, slice_set, unwrap_or, Option, Some, None, IfSome, Result, Ok, Err, OnOk, refl, sym, ap, subst, ◌∙◌, inl, inr, arith, append_assoc, append-nil}
-use Rattle.std.proofs.lemmas.List.{get_or-append-add, get_or_append_left, drop_more, get_or_default, length-append}
+use Rattle.std.proofs.Common.{◌≡◌, ◌⊎◌, ℕ, zero, suc, ◌+◌, ◌-◌, ◌<◌, Bool, true, false, cond, nat_lt, List, [], ◌∷◌, ◌++◌, length, get_or, map, slice_set, take, unwrap_or, Option, Some, None, IfSome, Result, Ok, Err, OnOk, refl, sym, ap, subst, ◌∙◌, inl, inr, arith, append_assoc}
+use Rattle.std.proofs.lemmas.List.{get_or-append-add, get_or-take, length-append, length-take-le}
 use Rattle.pq_rules.specs.Relations.{Each}
 use Rattle.pq_rules.proofs.Characterisation.{each_append}
 use Rattle.pq_syntax.specs.declared.tree.Statement.{Statement}
@@ -8,14 +8,14 @@ use Rattle.pq_syntax.specs.declared.tree.Statement.TheVariants as statements
 use Rattle.pq_syntax.specs.Places.{Item}
 use Rattle.pq_syntax.specs.Stacks.{closed, innermost}
 use Rattle.pq_syntax.proofs.Walk.{inner_at}
-use Rattle.pq_schema.specs.declared.asked.Answer.{Answer}
-use Rattle.pq_schema.specs.declared.asked.Asked.{Asked}
-use Rattle.pq_schema.specs.declared.named.Place.{Place}
-use Rattle.pq_schema.specs.declared.package_range.PackageRange.{PackageRange}
-use Rattle.pq_schema.specs.declared.scope.FileDefs.{FileDefs}
+use Rattle.pq_schema.specs.declared.search.asked.Answer.{Answer}
+use Rattle.pq_schema.specs.declared.search.asked.Asked.{Asked}
+use Rattle.pq_schema.specs.declared.scope.named.Place.{Place}
+use Rattle.pq_schema.specs.declared.scope.package_range.PackageRange.{PackageRange}
+use Rattle.pq_schema.specs.declared.scope.scope.FileDefs.{FileDefs}
 use Rattle.pq_schema.specs.Definitions.{qualified}
-use Rattle.pq_schema.specs.Resolution.{Meaning, meaning}
-use Rattle.pq_schema.specs.aux.Asked.{AreAsked, IsAsked, IsFront, IsRight}
+use Rattle.pq_schema.specs.Resolution.{meaning}
+use Rattle.pq_schema.specs.aux.Asked.{AreAsked, IsAsked}
 use Rattle.pq_schema.specs.aux.Hits.{meaning_at}
 use Rattle.pq_schema.specs.aux.Inside.{next_in, opened_by}
 use Rattle.pq_schema.specs.aux.NameParts.{leading}
@@ -44,34 +44,24 @@ known_right files lead items answers n a text name are within at is same all =
 
 -- a scope of which one more answer is kept
 pub kept_more : (files : List FileDefs) (lead : List ℕ) (old new : Asked) (a : Answer) (name : List ℕ)
-    → new.lead ≡ old.lead → new.packages ≡ old.packages → new.answers.items ≡ old.answers.items ++ a ∷ [] → a.name ≡ name
+    → new.packages ≡ old.packages → new.answers.items ≡ old.answers.items ++ a ∷ [] → a.name ≡ name
     → IsAsked files lead old → meaning_at a.place ≡ meaning files (lead ++ name) → IsAsked files lead new
-kept_more files lead old new a name same kept added is are right =
-    let here : meaning_at a.place ≡ meaning files (old.lead ++ a.name) =
-    right ∙ ap (λ (b : List ℕ). meaning files (lead ++ b)) (sym is) ∙ ap (λ (l : List ℕ). meaning files (l ++ a.name)) (sym are.0) in (
-      same ∙ are.0,
-      (
-        subst (λ (l : List ℕ). Each (λ (x : Answer). meaning_at x.place ≡ meaning files (l ++ x.name)) new.answers.items) (sym same)
-            (subst (λ (xs : List Answer). Each (λ (x : Answer). meaning_at x.place ≡ meaning files (old.lead ++ x.name)) xs) (sym added)
-            (each_append (λ (x : Answer). meaning_at x.place ≡ meaning files (old.lead ++ x.name)) old.answers.items (a ∷ []) are.1.0 (here, tt))),
-        subst (λ (p : Option PackageRange). IsRangeOf files p new.lead) (sym kept)
-            (subst (λ (l : List ℕ). IsRangeOf files old.packages l) (sym same) are.1.1),
-      ),
-    )
-
--- a scope without answers
-pub none_right : (files : List FileDefs) (s : Asked) → s.answers.items ≡ [] → IsRangeOf files s.packages s.lead → IsRight files s
-none_right files s none range = (subst (λ (xs : List Answer). Each (λ (a : Answer). meaning_at a.place ≡ meaning files (s.lead ++ a.name)) xs) (sym none) tt, range)
+kept_more files lead old new a name kept added is are right = (
+  subst (λ (xs : List Answer). Each (λ (x : Answer). meaning_at x.place ≡ meaning files (lead ++ x.name)) xs) (sym added)
+      (each_append (λ (x : Answer). meaning_at x.place ≡ meaning files (lead ++ x.name)) old.answers.items (a ∷ []) are.0
+      (right ∙ ap (λ (b : List ℕ). meaning files (lead ++ b)) (sym is), tt)),
+  subst (λ (p : Option PackageRange). IsRangeOf files p lead) (sym kept) are.1,
+)
 
 -- the packages of a scope that is opened, if they are those of the innermost
-pub range_there : (files : List FileDefs) (inner : List (List ℕ)) (at : ℕ) (item : List ℕ) (is_there : Bool) (packages there : Option PackageRange)
-    → there ≡ cond is_there packages None → (is_there ≡ true → at ≡ 0) → item ≡ get_or inner at item → 0 < length inner
-    → IsRangeOf files packages (get_or inner 0 []) → IsRangeOf files there item
-range_there files inner at item true packages there is first here some range =
-    subst (λ (o : Option PackageRange). IsRangeOf files o item) (sym is)
-    (subst (λ (l : List ℕ). IsRangeOf files packages l)
-    (sym (here ∙ ap (λ (n : ℕ). get_or inner n item) (first refl) ∙ get_or_default inner 0 item [] some)) range)
-range_there files inner at item false packages there is first here some range = subst (λ (o : Option PackageRange). IsRangeOf files o item) (sym is) tt
+pub range_there : (files : List FileDefs) (inner : List (List ℕ)) (at : ℕ) (is_there : Bool) (packages there : Option PackageRange)
+    → there ≡ cond is_there packages None → (is_there ≡ true → at ≡ 0)
+    → IsRangeOf files packages (get_or inner 0 []) → IsRangeOf files there (get_or inner at [])
+range_there files inner at true packages there is first range =
+    subst (λ (o : Option PackageRange). IsRangeOf files o (get_or inner at [])) (sym is)
+    (subst (λ (n : ℕ). IsRangeOf files packages (get_or inner n [])) (sym (first refl)) range)
+range_there files inner at false packages there is first range =
+    subst (λ (o : Option PackageRange). IsRangeOf files o (get_or inner at [])) (sym is) tt
 
 -- the same of one of several scopes
 pub known_scope : (asked : List Asked) (scope : Asked) (level : ℕ) (name : List ℕ) (o : Option (Option Place)) → get_or asked level scope ≡ scope
@@ -97,6 +87,18 @@ get_set (y ∷ ys) (suc n) (suc k) x d h = more (get_set ys n k x d (omega arith
     more (inl same) = inl (ap suc same.0, same.1)
     more (inr other) = inr other
 
+snoc_at : {A : Type 0} (xs : List A) (k : ℕ) (x d : A) → k < length (xs ++ x ∷ [])
+    → ((k < length xs) × (get_or (xs ++ x ∷ []) k d ≡ get_or xs k d)) ⊎ ((k ≡ length xs) × (get_or (xs ++ x ∷ []) k d ≡ x))
+snoc_at [] zero x d h = inr (refl, refl)
+snoc_at [] (suc k) x d h = absurd (omega (arith, h))
+snoc_at (y ∷ ys) zero x d h = inl (omega arith, refl)
+snoc_at (y ∷ ys) (suc k) x d h = more (snoc_at ys k x d (omega (arith, h)))
+  where
+    more : ((k < length ys) × (get_or (ys ++ x ∷ []) k d ≡ get_or ys k d)) ⊎ ((k ≡ length ys) × (get_or (ys ++ x ∷ []) k d ≡ x))
+        → ((suc k < suc (length ys)) × (get_or (ys ++ x ∷ []) k d ≡ get_or ys k d)) ⊎ ((suc k ≡ suc (length ys)) × (get_or (ys ++ x ∷ []) k d ≡ x))
+    more (inl before) = inl (omega (arith, before.0), before.1)
+    more (inr last) = inr (ap suc last.0, last.1)
+
 length_set : {A : Type 0} (xs : List A) (n : ℕ) (x : A) → length (slice_set xs n x) ≡ length xs
 length_set [] n x = refl
 length_set (y ∷ ys) zero x = refl
@@ -121,133 +123,61 @@ kept_at files leads asked level at scope there right are = record {
     cases l a d is (inr other) = subst (λ (s : Asked). IsAsked files (get_or leads a []) s) (sym other) (are.right l a d is)
 
 -- the scopes that are left once the others are closed
-pub closed_to : (files : List FileDefs) (more leads : List (List ℕ)) (old new : List Asked) → length new ≡ length leads → IsFront old new
+closed_to : (files : List FileDefs) (more leads : List (List ℕ)) (old new : List Asked) (count : ℕ) → new ≡ take count old → count ≡ length leads
     → AreAsked files (more ++ leads) old → AreAsked files leads new
-closed_to files more leads old new long front are =
+closed_to files more leads old new count left is are =
     let total = length-append more leads in
     record {
-      count = long;
+      count = ap length left ∙ length-take-le count old (omega (arith, is, total, are.count)) ∙ is;
       right = λ level at d there.
           subst (λ (s : Asked). IsAsked files (get_or leads at []) s)
-          (ap (λ (xs : List Asked). get_or xs level d) front.is ∙ get_or_append_left new front.rest d level (omega (arith, long, there)))
+          (sym (ap (λ (xs : List Asked). get_or xs level d) left ∙ get_or-take count old level d (omega (arith, is, there))))
           (subst (λ (l : List ℕ). IsAsked files l (get_or old level d)) (get_or-append-add more leads at [])
           (are.right level (length more + at) d (omega (arith, total, there))));
     }
 
-pub front_all : (all : List Asked) → IsFront all all
-front_all all = record { rest = []; is = sym (append-nil all) }
-
-pub front_through : (all some part : List Asked) → IsFront all some → IsFront some part → IsFront all part
-front_through all some part f g = record {
-  rest = g.rest ++ f.rest;
-  is = f.is ∙ ap (λ (xs : List Asked). xs ++ f.rest) g.is ∙ append_assoc part g.rest f.rest;
-}
-
--- what all scopes are, those that are left are
-each_left : {A : Type 0} (P : A → Type 0) (xs ys : List A) → Each P (xs ++ ys) → Each P xs
-each_left P [] ys all = tt
-each_left P (x ∷ xs) ys all = (all.0, each_left P xs ys all.1)
-
-pub each_front : (P : Asked → Type 0) (all part : List Asked) → IsFront all part → Each P all → Each P part
-each_front P all part front right = each_left P part front.rest (subst (λ (xs : List Asked). Each P xs) front.is right)
-
-pub each_last : (P : Asked → Type 0) (xs : List Asked) (x : Asked) → Each P (xs ++ x ∷ []) → P x
-each_last P [] x all = all.0
-each_last P (y ∷ ys) x all = each_last P ys x all.1
-
-pub each_set : (P : Asked → Type 0) (xs : List Asked) (n : ℕ) (x : Asked) → P x → Each P xs → Each P (slice_set xs n x)
-each_set P [] n x one all = tt
-each_set P (y ∷ ys) zero x one all = (one, all.1)
-each_set P (y ∷ ys) (suc n) x one all = (all.0, each_set P ys n x one all.1)
-
-pub each_in : (P : Asked → Type 0) (xs : List Asked) (n : ℕ) (d : Asked) → Each P xs → n < length xs → P (get_or xs n d)
-each_in P xs n d all within = each_or P xs n d all within
-
-each_all : (P : Asked → Type 0) (xs : List Asked) → ((i : ℕ) (d : Asked) → i < length xs → P (get_or xs i d)) → Each P xs
-each_all P [] h = tt
-each_all P (x ∷ xs) h = (h zero x (omega arith), each_all P xs (λ i d within. h (suc i) d (omega (arith, within))))
-
--- the answers of the open scopes are right
-pub all_right : (files : List FileDefs) (leads : List (List ℕ)) (asked : List Asked) → AreAsked files leads asked → Each (IsRight files) asked
-all_right files leads asked are =
-    each_all (IsRight files) asked (λ i d within. (are.right i (length leads - (i + 1)) d (omega (arith, within, are.count))).1)
-
--- one more scope is opened
-asked_more : (files : List FileDefs) (leads : List (List ℕ)) (asked : List Asked) (lead : List ℕ) (s : Asked)
-    → AreAsked files leads asked → IsAsked files lead s → AreAsked files (lead ∷ leads) (asked ++ s ∷ [])
-asked_more files leads asked lead s are one = record {
-  count = omega (arith, length-append asked (s ∷ []), are.count);
-  right = λ level at d there. by_place level at d there;
-}
-  where
-    by_place : (level at : ℕ) (d : Asked) → level + (at + 1) ≡ length (lead ∷ leads) → IsAsked files (get_or (lead ∷ leads) at []) (get_or (asked ++ s ∷ []) level d)
-    by_place level zero d there =
-        let here : length asked + 0 ≡ level = omega (arith, there, are.count) in
-        subst (λ (n : ℕ). IsAsked files lead (get_or (asked ++ s ∷ []) n d)) here
-        (subst (λ (x : Asked). IsAsked files lead x) (sym (get_or-append-add asked (s ∷ []) 0 d)) one)
-    by_place level (suc at) d there =
-        let within : level < length asked = omega (arith, there, are.count) in
-        subst (λ (x : Asked). IsAsked files (get_or leads at []) x) (sym (get_or_append_left asked (s ∷ []) d level within))
-        (are.right level at d (omega (arith, there)))
-
-drop_to : (more leads : List (List ℕ)) → drop (length more) (more ++ leads) ≡ leads
-drop_to [] leads = refl
-drop_to (m ∷ more) leads = drop_to more leads
+-- `AreRight files leads asked` is that the answers of the scopes `asked` are right, which are the
+-- outermost of those with `leads` before their names
+abbrev pub AreRight : List FileDefs → List (List ℕ) → List Asked → Type 0
+AreRight files leads asked = (level at : ℕ) (d : Asked) → level < length asked → level + (at + 1) ≡ length leads
+    → IsAsked files (get_or leads at []) (get_or asked level d)
 
 -- before some scopes are opened
-pub opened_none : (files : List FileDefs) (more leads inner : List (List ℕ)) (asked : List Asked) (k : ℕ) → inner ≡ more ++ leads → k ≡ length asked
-    → AreAsked files leads asked → AreAsked files (drop (length inner - k) inner) asked
-opened_none files more leads inner asked k is count are =
-    let total = ap length is ∙ length-append more leads in
-    let past : length inner - k ≡ length more = omega (arith, total, count, are.count) in
-    subst (λ (ls : List (List ℕ)). AreAsked files ls asked)
-    (sym (ap (λ (n : ℕ). drop n inner) past ∙ ap (λ (ls : List (List ℕ)). drop (length more) ls) is ∙ drop_to more leads)) are
+pub opened_none : (files : List FileDefs) (more leads : List (List ℕ)) (asked : List Asked) → AreAsked files leads asked → AreRight files (more ++ leads) asked
+opened_none files more leads asked are level at d within there =
+    let a = at - length more in
+    let further : length more + a ≡ at = omega (arith, within, there, are.count, length-append more leads) in
+    subst (λ (l : List ℕ). IsAsked files l (get_or asked level d))
+    (sym (get_or-append-add more leads a []) ∙ ap (λ (n : ℕ). get_or (more ++ leads) n []) further)
+    (are.right level a d (omega (arith, further, there, length-append more leads)))
 
 -- once one of them is
-pub opened_more : (files : List FileDefs) (inner : List (List ℕ)) (xs new : List Asked) (k at : ℕ) (lead item : List ℕ) (s : Asked)
-    → k < length inner → at + (k + 1) ≡ length inner → lead ≡ item → item ≡ get_or inner at item → new ≡ xs ++ s ∷ [] → IsAsked files lead s
-    → AreAsked files (drop (length inner - k) inner) xs → AreAsked files (drop (length inner - (k + 1)) inner) new
-opened_more files inner xs new k at lead item s within there same is made one are =
-    let here : length inner - (k + 1) ≡ at = omega (arith, there) in
-    let after : length inner - k ≡ at + 1 = omega (arith, there) in
-    let inside : at < length inner = omega (arith, there) in
-    subst (λ (ls : List (List ℕ)). AreAsked files ls new)
-    (sym (ap (λ (n : ℕ). drop n inner) here ∙ drop_more inner at item inside ∙ ap (λ (l : List ℕ). l ∷ drop (at + 1) inner) (sym is ∙ sym same)))
-    (subst (λ (ys : List Asked). AreAsked files (lead ∷ drop (at + 1) inner) ys) (sym made)
-    (asked_more files (drop (at + 1) inner) xs lead s (subst (λ (n : ℕ). AreAsked files (drop n inner) xs) after are) one))
+pub opened_more : (files : List FileDefs) (leads : List (List ℕ)) (asked new : List Asked) (s : Asked) → new ≡ asked ++ s ∷ []
+    → ((at : ℕ) → length asked + (at + 1) ≡ length leads → IsAsked files (get_or leads at []) s)
+    → AreRight files leads asked → AreRight files leads new
+opened_more files leads asked new s added one are =
+    subst (λ (xs : List Asked). AreRight files leads xs) (sym added)
+    (λ level at d within there. by_level level at d there (snoc_at asked level s d within))
+  where
+    by_level : (level at : ℕ) (d : Asked) → level + (at + 1) ≡ length leads
+        → ((level < length asked) × (get_or (asked ++ s ∷ []) level d ≡ get_or asked level d)) ⊎ ((level ≡ length asked) × (get_or (asked ++ s ∷ []) level d ≡ s))
+        → IsAsked files (get_or leads at []) (get_or (asked ++ s ∷ []) level d)
+    by_level level at d there (inl before) = subst (λ (x : Asked). IsAsked files (get_or leads at []) x) (sym before.1) (are level at d before.0 there)
+    by_level level at d there (inr last) = subst (λ (x : Asked). IsAsked files (get_or leads at []) x) (sym last.1) (one at (omega (arith, last.0, there)))
 
 -- once all are
-pub opened_all : (files : List FileDefs) (inner : List (List ℕ)) (asked : List Asked) (k : ℕ) → length inner ≤ k
-    → AreAsked files (drop (length inner - k) inner) asked → AreAsked files inner asked
-opened_all files inner asked k past are =
-    let none : length inner - k ≡ 0 = omega (arith, past) in
-    subst (λ (n : ℕ). AreAsked files (drop n inner) asked) none are
+pub opened_all : (files : List FileDefs) (leads : List (List ℕ)) (asked : List Asked) → length asked ≡ length leads → AreRight files leads asked → AreAsked files leads asked
+opened_all files leads asked count are = record {
+  count = count;
+  right = λ level at d there. are level at d (omega (arith, count, there)) there;
+}
 
 -- ---- a search from scope to scope
-
--- what a scope has, as a name in it is spelled
-pub looked : (files : List FileDefs) (inner : List (List ℕ)) (i : ℕ) (lead item name full : List ℕ) (m : Meaning)
-    → i < length inner → lead ≡ item → item ≡ get_or inner i item → full ≡ lead ++ name
-    → m ≡ meaning files (get_or inner i [] ++ name) → m ≡ meaning files full
-looked files inner i lead item name full m within same at spelled is =
-    is ∙ ap (λ (l : List ℕ). meaning files (l ++ name)) (get_or_default inner i [] item within ∙ sym at ∙ sym same)
-    ∙ ap (λ (n : List ℕ). meaning files n) (sym spelled)
-
--- the packages inside it
-pub scope_range : (files : List FileDefs) (inner : List (List ℕ)) (i : ℕ) (lead item parts : List ℕ) (o : Option PackageRange)
-    → i < length inner → lead ≡ item → item ≡ get_or inner i item → parts ≡ lead
-    → IsRangeOf files o (get_or inner i []) → IsRangeOf files o parts
-scope_range files inner i lead item parts o within same at are range =
-    subst (λ (l : List ℕ). IsRangeOf files o l) (get_or_default inner i [] item within ∙ sym at ∙ sym same ∙ sym are) range
 
 -- what stays where a call that does not change it is the last
 pub asked_on : {A E P : Type 0} (r : Result A E) → P → OnOk r P
 asked_on (Ok a) p = p
 asked_on (Err e) p = tt
-
-pub on_ok : {A E P Q : Type 0} (r : Result A E) → OnOk r P → (P → Q) → OnOk r Q
-on_ok (Ok a) p f = f p
-on_ok (Err e) p f = tt
 
 -- ---- the walk
 
@@ -306,25 +236,26 @@ keep_ends i outer = by_statement i.node.statement
 
 -- what is kept of the scopes that stay open, as those deeper than a statement are closed
 pub asked_closed : (files : List FileDefs) (root : List ℕ) (stack : List (ℕ × (List ℕ × List (List ℕ)))) (depth : ℕ) (scope : List ℕ × List (List ℕ)) (old new : List Asked) (count : ℕ)
-    → scope ≡ inner_at (root, []) stack depth → count ≡ length scope.1
-    → ((fs : List FileDefs) (more leads : List (List ℕ)) → count ≡ length leads → AreAsked fs (more ++ leads) old → AreAsked fs leads new)
+    → scope ≡ inner_at (root, []) stack depth → count ≡ length scope.1 → new ≡ take count old
     → AreNested root stack → AreAsked files (first root stack).1 old → AreAsked files scope.1 new
-asked_closed files root stack depth scope old new count inner is closes nested are =
+asked_closed files root stack depth scope old new count inner is left nested are =
     let ends = (closed_nested root depth stack nested).1 in
-    closes files ends.0 scope.1 is
+    closed_to files ends.0 scope.1 old new count left is
     (subst (λ (s : List ℕ × List (List ℕ)). AreAsked files (ends.0 ++ s.1) old) (sym inner)
     (subst (λ (ls : List (List ℕ)). AreAsked files ls old) ends.1 are))
 
 -- what is kept once the scope of a statement's contents is opened
-pub asked_opened : (files : List FileDefs) (root : List ℕ) (depth : ℕ) (i : Item) (scope : List ℕ × List (List ℕ)) (new rest : List (ℕ × (List ℕ × List (List ℕ)))) (old opened closed : List Asked) (inner : List (List ℕ))
-    → new ≡ (depth, keep i scope) ∷ rest → inner ≡ (keep i scope).1
-    → ((more leads : List (List ℕ)) → inner ≡ more ++ leads → Each (IsRight files) closed → AreAsked files leads old → AreAsked files (more ++ leads) opened)
-    → Each (IsRight files) closed → AreAsked files scope.1 old → AreAsked files (first root new).1 opened
-asked_opened files root depth i scope new rest old opened closed inner is same opens right are =
+pub asked_opened : (files : List FileDefs) (root : List ℕ) (depth : ℕ) (i : Item) (scope : List ℕ × List (List ℕ)) (new rest : List (ℕ × (List ℕ × List (List ℕ)))) (old opened : List Asked) (count : ℕ) (packages : Option PackageRange)
+    → new ≡ (depth, keep i scope) ∷ rest → count ≡ length (keep i scope).1 → IsRangeOf files packages (get_or (keep i scope).1 0 [])
+    → ((fs : List FileDefs) (more leads : List (List ℕ)) → count ≡ length (more ++ leads) → IsRangeOf fs packages (get_or (more ++ leads) 0 [])
+    → AreAsked fs leads old → AreAsked fs (more ++ leads) opened)
+    → AreAsked files scope.1 old → AreAsked files (first root new).1 opened
+asked_opened files root depth i scope new rest old opened count packages is same range opens are =
     let ends = keep_ends i scope in
     subst (λ (es : List (ℕ × (List ℕ × List (List ℕ)))). AreAsked files (first root es).1 opened) (sym is)
     (subst (λ (ls : List (List ℕ)). AreAsked files ls opened) (sym ends.1)
-    (opens ends.0 scope.1 (same ∙ ends.1) right are))
+    (opens files ends.0 scope.1 (same ∙ ap (λ (ls : List (List ℕ)). length ls) ends.1)
+    (subst (λ (ls : List (List ℕ)). IsRangeOf files packages (get_or ls 0 [])) ends.1 range) are))
 
 pub nested_more : (root : List ℕ) (depth : ℕ) (stack new : List (ℕ × (List ℕ × List (List ℕ)))) (i : Item) (scope : List ℕ × List (List ℕ))
     → scope ≡ inner_at (root, []) stack depth → new ≡ (depth, keep i scope) ∷ closed depth stack → AreNested root stack → AreNested root new

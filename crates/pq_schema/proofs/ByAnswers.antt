@@ -11,12 +11,12 @@ use Rattle.pq_schema.specs.Contents.{Defs}
 use Rattle.pq_schema.specs.ScopeContents.{Scope}
 use Rattle.pq_schema.specs.Definitions.{defs_of}
 use Rattle.pq_schema.specs.aux.Queries.{defs_starts, defs_advances, collect_next, scope_starts, scope_advances, resolved_starts, resolved_by, resolved_advances}
-use Rattle.pq_schema.specs.declared.resolved.ResolvedPart.{ResolvedPart}
-use Rattle.pq_schema.specs.declared.resolved.ResolvedPart.TheVariants.{ReadScope, ReadTree}
-use Rattle.pq_schema.specs.declared.resolved.ResolvedReference.{ResolvedReference}
-use Rattle.pq_schema.specs.declared.scope.FileDefs.{FileDefs}
-use Rattle.pq_schema.specs.declared.scopes.ScopePart.{ScopePart}
-use Rattle.pq_schema.specs.declared.scopes.ScopePart.TheVariants.{ReadLinks, Collect}
+use Rattle.pq_schema.specs.declared.queries.resolved.ResolvedPart.{ResolvedPart}
+use Rattle.pq_schema.specs.declared.queries.resolved.ResolvedPart.TheVariants.{ReadScope, ReadTree}
+use Rattle.pq_schema.specs.declared.queries.resolved.ResolvedReference.{ResolvedReference}
+use Rattle.pq_schema.specs.declared.scope.scope.FileDefs.{FileDefs}
+use Rattle.pq_schema.specs.declared.queries.scopes.ScopePart.{ScopePart}
+use Rattle.pq_schema.specs.declared.queries.scopes.ScopePart.TheVariants.{ReadLinks, Collect}
 
 -- one question with its answer, where the key is another's
 abbrev asked_one : {K A : Type 0} → K → A → List (K × A)

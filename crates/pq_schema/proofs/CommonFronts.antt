@@ -11,8 +11,8 @@ use Rattle.std.proofs.lemmas.List.{get_or-take, length-append, length-take-le, t
 use Rattle.std.proofs.lemmas.Option.{slice_get_within, slice_get-get_or}
 use Rattle.pq_rules.specs.Relations.{Each}
 use Rattle.pq_rules.proofs.Settled.{each_map}
-use Rattle.pq_schema.specs.declared.definitions.Definition.{Definition}
-use Rattle.pq_schema.specs.declared.scope.FileDefs.{FileDefs}
+use Rattle.pq_schema.specs.declared.define.definitions.Definition.{Definition}
+use Rattle.pq_schema.specs.declared.scope.scope.FileDefs.{FileDefs}
 use Rattle.pq_schema.specs.Definitions.{qualified}
 use Rattle.pq_schema.specs.Resolution.{scopes}
 use Rattle.pq_schema.specs.aux.Fronts.{AreFronts, BeginAlike, Begins, BothBegin, CountsAt, DiffersAt, Guides, IsSpotOf, LeavesAt}
@@ -22,7 +22,7 @@ use Rattle.pq_schema.specs.aux.InPackage.{Below}
 use Rattle.pq_schema.specs.aux.NameParts.{leading}
 use Rattle.pq_schema.specs.aux.Outward.{beyond}
 use Rattle.pq_schema.specs.aux.PackageRange.{IsRange, IsRangeOf}
-use Rattle.pq_schema.specs.declared.package_range.PackageRange.{PackageRange}
+use Rattle.pq_schema.specs.declared.scope.package_range.PackageRange.{PackageRange}
 use Rattle.pq_schema.specs.aux.Scopes.{is_among}
 use Rattle.pq_schema.specs.aux.Spots.{AreSpots}
 use Rattle.pq_schema.proofs.Alike.{none_alike}

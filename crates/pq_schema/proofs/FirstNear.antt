@@ -8,12 +8,12 @@ use Rattle.std.specs.Ordering.{nat_cmp}
 use Rattle.std.proofs.lemmas.List.Sorted.{IsNonDecreasingBy-from_sort}
 use Rattle.pq_rules.specs.Relations.{Each, In}
 use Rattle.pq_rules.proofs.ListLemmas.{each_from, in_index}
-use Rattle.pq_schema.specs.declared.definitions.Definition.{Definition}
-use Rattle.pq_schema.specs.declared.scope.FileDefs.{FileDefs}
+use Rattle.pq_schema.specs.declared.define.definitions.Definition.{Definition}
+use Rattle.pq_schema.specs.declared.scope.scope.FileDefs.{FileDefs}
 use Rattle.pq_schema.specs.Others.{defines, first_with}
 use Rattle.pq_schema.specs.Resolution.{Meaning, meaning}
 use Rattle.pq_schema.specs.Resolution.Meaning.{Defined, Undefined}
-use Rattle.pq_schema.specs.declared.named.Place.{Place}
+use Rattle.pq_schema.specs.declared.scope.named.Place.{Place}
 use Rattle.pq_schema.specs.aux.FirstOf.{either, first_of, answer_by, answer_at, other_with, definition_in, first_near, is_other, is_other_at}
 use Rattle.pq_schema.specs.aux.Grouping.{AreNear, IsBelow, around, find_in}
 use Rattle.pq_schema.specs.aux.Hits.{placed, meaning_at}

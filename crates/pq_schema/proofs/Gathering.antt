@@ -16,7 +16,7 @@ use Rattle.pq_schema.specs.Answers.{picked}
 use Rattle.pq_schema.specs.Definitions.{package_of, defs_of}
 use Rattle.pq_schema.specs.Missing.{no_defs}
 use Rattle.pq_schema.specs.aux.Collecting.{collected_view, collect_read, first_of, defs_if, defs_named, named}
-use Rattle.pq_schema.specs.declared.scope.FileDefs.{FileDefs}
+use Rattle.pq_schema.specs.declared.scope.scope.FileDefs.{FileDefs}
 
 -- ---- a loop that adds to a list what each element of another gives
 

@@ -6,7 +6,7 @@ use Rattle.pq_syntax.specs.declared.tree.Statement.{Statement}
 use Rattle.pq_syntax.specs.declared.tree.Statement.TheVariants.{Import, Package, Option as OptionStatement, Message, Field, MapField, Oneof, ReservedNumbers, ReservedNames, Enum, Value, Service, Method, Extend}
 use Rattle.pq_syntax.specs.Places.{Item, Place, kept}
 use Rattle.pq_schema.specs.Definitions.{qualified, scope_of, scope_in, entry_name, defined_by, defined_at}
-use Rattle.pq_schema.specs.declared.definitions.Definition.{Definition}
+use Rattle.pq_schema.specs.declared.define.definitions.Definition.{Definition}
 use Rattle.pq_schema.specs.aux.InPackage.{Below, AllBelow}
 
 -- a scope is the package itself, or below it

@@ -16,7 +16,7 @@ use Rattle.std.proofs.lemmas.Option.{get_or_from_slice_get, slice_get_within}
 use Rattle.std.proofs.lemmas.List.Sorted.{sorted_far, ranks_by, Contains-permutation, IsPermutation-sym}
 use Rattle.pq_schema.proofs.Cases.{either}
 use Rattle.pq_schema.proofs.Rising.{by_order, by_name_total, not_below_itself, rises}
-use Rattle.pq_schema.specs.declared.definitions.Definition.{Definition}
+use Rattle.pq_schema.specs.declared.define.definitions.Definition.{Definition}
 use Rattle.pq_schema.specs.aux.NameCodes.{code_order}
 use Rattle.pq_schema.specs.aux.CodeOrder.{codes_total, codes_tie}
 use Rattle.pq_schema.specs.aux.Copies.{At, IsCopy, full_names}

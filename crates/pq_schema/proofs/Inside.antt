@@ -2,7 +2,7 @@
 use Rattle.std.proofs.Common.{◌≡◌, ℕ, zero, suc, ◌+◌, ◌<◌, ◌≤◌, Bool, true, false, cond, ◌||◌, nat_eq, nat_lt, unwrap_or, List, [], ◌∷◌, ◌++◌, length, get_or, map, drop, take, Option, refl, sym, ap, subst, ◌∙◌, arith, append_assoc, append-nil}
 use Rattle.std.specs.Prelude.{bytes_eq, codes, flat_map}
 use Rattle.std.specs.List.{starts_with}
-use Rattle.std.proofs.lemmas.List.{at_drop_all, at_drop_more, get_or_default, length-append, map-append, map-id, take_all}
+use Rattle.std.proofs.lemmas.List.{at_drop_all, at_drop_more, length-append, map-append, map-id, take_all}
 use Rattle.std.proofs.lemmas.Simd.{map-map}
 use Rattle.std.proofs.lemmas.Slice.Eq.{bytes_eq-Decides}
 use Rattle.pq_links.specs.declared.places.TypePart.{TypePart}
@@ -13,7 +13,7 @@ use Rattle.pq_syntax.specs.declared.tree.Statement.TheVariants as statements
 use Rattle.pq_syntax.specs.Places.{Item, Place, kept}
 use Rattle.pq_syntax.specs.Stacks.{closed, innermost}
 use Rattle.pq_syntax.proofs.Walk.{given, inner_at}
-use Rattle.pq_schema.specs.declared.scope.FileDefs.{FileDefs}
+use Rattle.pq_schema.specs.declared.scope.scope.FileDefs.{FileDefs}
 use Rattle.pq_schema.specs.Definitions.{qualified, scope_in, scope_of}
 use Rattle.pq_schema.specs.References.{references_at, references_by}
 use Rattle.pq_schema.specs.Resolution.{Found, decides, dotted, found, is_package, prefixes, scopes, single, unless_type}
@@ -213,9 +213,6 @@ each_at P [] i d all within = absurd (omega arith)
 each_at P (x ∷ xs) zero d all within = all.0
 each_at P (x ∷ xs) (suc i) d all within = each_at P xs i d all.1 (omega arith)
 
-pub lead_at : (leads : List (List ℕ)) (i : ℕ) (l e : List ℕ) → i < length leads → l ≡ e → e ≡ get_or leads i e → get_or leads i l ≡ l
-lead_at leads i l e within same is = get_or_default leads i l e within ∙ sym is ∙ sym same
-
 -- the leads once one is added
 pub leads_more : (root : List ℕ) (next : Option (List ℕ)) (s lead : List ℕ) (old new whole : List (List ℕ))
     → prefixes s ≡ before next → lead ≡ leading (qualified root s) → new ≡ old ++ lead ∷ []
@@ -252,18 +249,16 @@ dotted_leads files (s ∷ ss) tt first name =
     ∙ ap (λ (x : List ℕ). cond (decides files (leading s ++ first)) (found files x) (dotted_from files (map leading ss) (dotted files tt first name) first name)) (sym (spelled s name))
 
 -- the leads from one on
-pub single_step : (files : List FileDefs) (name : List ℕ) (leads : List (List ℕ)) (i : ℕ) (lead : List ℕ) (best hit next outer whole : Found)
-    → i < length leads → get_or leads i lead ≡ lead
-    → hit ≡ found files (lead ++ name) → next ≡ unless_type best hit
+pub single_step : (files : List FileDefs) (name : List ℕ) (leads : List (List ℕ)) (i : ℕ) (best hit next outer whole : Found)
+    → i < length leads → hit ≡ found files (get_or leads i [] ++ name) → next ≡ unless_type best hit
     → whole ≡ unless_type best (single_from files (drop i leads) outer name)
     → whole ≡ unless_type next (single_from files (drop (i + 1) leads) outer name)
 unfolding single_from
-single_step files name leads i lead best hit next outer whole within at is is_next so_far =
+single_step files name leads i best hit next outer whole within is is_next so_far =
     let rest = single_from files (drop (i + 1) leads) outer name in
     so_far
-    ∙ ap (λ (f : Found). unless_type best f) (at_drop_more (λ ls. single_from files ls outer name) leads i lead within)
-    ∙ ap (λ (l : List ℕ). unless_type best (unless_type (found files (l ++ name)) rest)) at
-    ∙ sym (grouped best (found files (lead ++ name)) rest)
+    ∙ ap (λ (f : Found). unless_type best f) (at_drop_more (λ ls. single_from files ls outer name) leads i [] within)
+    ∙ sym (grouped best (found files (get_or leads i [] ++ name)) rest)
     ∙ ap (λ (f : Found). unless_type f rest) (sym (is_next ∙ ap (λ (f : Found). unless_type best f) is))
 
 pub single_end : (files : List FileDefs) (name : List ℕ) (leads : List (List ℕ)) (i : ℕ) (best outer whole : Found)
@@ -272,17 +267,16 @@ unfolding single_from
 single_end files name leads i best outer whole past so_far =
     so_far ∙ ap (λ (f : Found). unless_type best f) (at_drop_all (λ ls. single_from files ls outer name) leads i past)
 
-pub dotted_step : (files : List FileDefs) (first name : List ℕ) (leads : List (List ℕ)) (i : ℕ) (lead : List ℕ) (b : Bool) (outer whole : Found)
-    → i < length leads → get_or leads i lead ≡ lead → b ≡ decides files (lead ++ first)
+pub dotted_step : (files : List FileDefs) (first name : List ℕ) (leads : List (List ℕ)) (i : ℕ) (b : Bool) (outer whole : Found)
+    → i < length leads → b ≡ decides files (get_or leads i [] ++ first)
     → whole ≡ dotted_from files (drop i leads) outer first name
-    → whole ≡ cond b (found files (lead ++ name)) (dotted_from files (drop (i + 1) leads) outer first name)
+    → whole ≡ cond b (found files (get_or leads i [] ++ name)) (dotted_from files (drop (i + 1) leads) outer first name)
 unfolding dotted_from
-dotted_step files first name leads i lead b outer whole within at is so_far =
+dotted_step files first name leads i b outer whole within is so_far =
     let rest = dotted_from files (drop (i + 1) leads) outer first name in
     so_far
-    ∙ at_drop_more (λ ls. dotted_from files ls outer first name) leads i lead within
-    ∙ ap (λ (l : List ℕ). cond (decides files (l ++ first)) (found files (l ++ name)) rest) at
-    ∙ ap (λ (x : Bool). cond x (found files (lead ++ name)) rest) (sym is)
+    ∙ at_drop_more (λ ls. dotted_from files ls outer first name) leads i [] within
+    ∙ ap (λ (x : Bool). cond x (found files (get_or leads i [] ++ name)) rest) (sym is)
 
 pub dotted_end : (files : List FileDefs) (first name : List ℕ) (leads : List (List ℕ)) (i : ℕ) (outer whole : Found)
     → length leads ≤ i → whole ≡ dotted_from files (drop i leads) outer first name → whole ≡ outer

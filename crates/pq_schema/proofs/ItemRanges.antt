@@ -4,7 +4,7 @@ use Rattle.std.specs.List.Sorted.{IsNonDecreasingBy}
 use Rattle.std.proofs.lemmas.Bool.{cases_lt, leb-false, ltb-true}
 use Rattle.std.proofs.lemmas.List.{get_or-drop, get_or-take, get_or_default, length-drop, length-take-le, take-append-drop, append-nil}
 use Rattle.pq_schema.specs.OfItem.{IsOfItem, item_of}
-use Rattle.pq_schema.specs.declared.resolved.ResolvedReference.{ResolvedReference}
+use Rattle.pq_schema.specs.declared.queries.resolved.ResolvedReference.{ResolvedReference}
 
 -- the items of the first `count` of `rs` do not fall, and none is greater than `last`
 pub record RisenTo (rs : List ResolvedReference) (count last : ℕ) : Type 0 where

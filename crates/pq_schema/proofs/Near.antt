@@ -7,7 +7,7 @@ use Rattle.pq_rules.specs.Relations.{In}
 use Rattle.pq_schema.specs.aux.InPackage.{dotted}
 use Rattle.pq_schema.specs.Definitions.{qualified}
 use Rattle.pq_schema.specs.Resolution.{prefixes, scopes}
-use Rattle.pq_schema.specs.declared.scope.FileDefs.{FileDefs}
+use Rattle.pq_schema.specs.declared.scope.scope.FileDefs.{FileDefs}
 use Rattle.pq_schema.specs.aux.Grouping.{AreNear, around}
 use Rattle.pq_schema.specs.aux.Scopes.{chain, first_of, after_first, is_among}
 use Rattle.pq_schema.proofs.Prefixes.{no_dot, before_last}

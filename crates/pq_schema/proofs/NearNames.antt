@@ -14,8 +14,8 @@ use Rattle.std.proofs.lemmas.List.{get_or_default}
 use Rattle.std.proofs.lemmas.List.Sorted.{sorted_far, ranks_by, Contains-permutation, IsPermutation-sym}
 use Rattle.pq_rules.specs.Relations.{In}
 use Rattle.pq_rules.proofs.ListLemmas.{in_at, in_index, in_contains, contains_in}
-use Rattle.pq_schema.specs.declared.definitions.Definition.{Definition}
-use Rattle.pq_schema.specs.declared.scope.FileDefs.{FileDefs}
+use Rattle.pq_schema.specs.declared.define.definitions.Definition.{Definition}
+use Rattle.pq_schema.specs.declared.scope.scope.FileDefs.{FileDefs}
 use Rattle.pq_schema.specs.aux.FirstOf.{answer_by, answer_at, definition_in, first_near}
 use Rattle.pq_schema.specs.aux.Grouping.{find_in}
 use Rattle.pq_schema.specs.aux.Index.{IsIndexOf, entries}

@@ -13,9 +13,9 @@ use Rattle.pq_syntax.specs.declared.tree.Node.{Node}
 use Rattle.pq_syntax.specs.Places.{Item, places}
 use Rattle.pq_syntax.specs.Stacks.{closed, innermost}
 use Rattle.pq_syntax.proofs.Walk.{Walked, inner_at, item_at, walked_all, walked_more, walked_none}
-use Rattle.pq_schema.specs.declared.copies.Numbered.{Numbered}
-use Rattle.pq_schema.specs.declared.copies.Numbering.{Numbering}
-use Rattle.pq_schema.specs.declared.definitions.Definition.{Definition}
+use Rattle.pq_schema.specs.declared.define.copies.Numbered.{Numbered}
+use Rattle.pq_schema.specs.declared.define.copies.Numbering.{Numbering}
+use Rattle.pq_schema.specs.declared.define.definitions.Definition.{Definition}
 use Rattle.pq_schema.specs.Definitions.{defined_at, defined_by, qualified, scope_of}
 use Rattle.pq_schema.specs.aux.Copies.{Adds, AddsAll, AddsName, AddsWithin, AreCopies, At, IsCopy, IsKnown, IsNumbering, full_names}
 use Rattle.pq_schema.proofs.Cases.{either}

@@ -2,9 +2,9 @@
 use Rattle.std.proofs.Common.{◌≡◌, ℕ, ◌+◌, ◌-◌, ◌<◌, ◌==◌, true≢false, false, List, [], ◌∷◌, ◌++◌, length, get_or, map, Option, Some, None, refl, sym, ap, subst, ◌∙◌, arith, append_assoc}
 use Rattle.std.specs.Prelude.{codes, slice_get}
 use Rattle.std.proofs.lemmas.Option.{get_or_from_slice_get, slice_get-get_or, slice_get_within}
-use Rattle.pq_schema.specs.declared.asked.Asked.{Asked}
-use Rattle.pq_schema.specs.declared.package_range.PackageRange.{PackageRange}
-use Rattle.pq_schema.specs.declared.scope.FileDefs.{FileDefs}
+use Rattle.pq_schema.specs.declared.search.asked.Asked.{Asked}
+use Rattle.pq_schema.specs.declared.scope.package_range.PackageRange.{PackageRange}
+use Rattle.pq_schema.specs.declared.scope.scope.FileDefs.{FileDefs}
 use Rattle.pq_schema.specs.Definitions.{qualified}
 use Rattle.pq_schema.specs.Resolution.{scopes}
 use Rattle.pq_schema.specs.aux.Asked.{AreAsked, IsAsked}
@@ -58,8 +58,8 @@ around_scope files root scope asked s outer last has inner are =
     let there : (length asked - 1) + (0 + 1) ≡ length scope.1 = omega (arith, within, are.count) in
     let known : IsAsked files (get_or scope.1 0 []) s =
     subst (λ (x : Asked). IsAsked files (get_or scope.1 0 []) x) (get_or_from_slice_get asked (length asked - 1) s s (sym last)) (are.right (length asked - 1) 0 s there) in
-    subst (λ (l : List ℕ). IsRange files l outer) (known.0 ∙ innermost_is root scope.0 scope.1 (omega (arith, there)) inner)
-    (subst (λ (o : Option PackageRange). IsRangeOf files o s.lead) has known.1.1)
+    subst (λ (l : List ℕ). IsRange files l outer) (innermost_is root scope.0 scope.1 (omega (arith, there)) inner)
+    (subst (λ (o : Option PackageRange). IsRangeOf files o (get_or scope.1 0 [])) has known.1)
 
 -- ---- a scope in it
 

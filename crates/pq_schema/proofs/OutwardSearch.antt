@@ -12,10 +12,10 @@ use Rattle.std.proofs.lemmas.Bool.{ltb-false, ltb-true, lt-ltb}
 use Rattle.std.proofs.lemmas.Slice.Eq.{bytes_eq-Decides}
 use Rattle.pq_rules.specs.Relations.{Each}
 use Rattle.pq_rules.proofs.Characterisation.{each_append}
-use Rattle.pq_schema.specs.declared.definitions.Definition.{Definition}
-use Rattle.pq_schema.specs.declared.definitions.DefinitionKind.{DefinitionKind}
-use Rattle.pq_schema.specs.declared.definitions.DefinitionKind.TheVariants as kinds
-use Rattle.pq_schema.specs.declared.scope.FileDefs.{FileDefs}
+use Rattle.pq_schema.specs.declared.define.definitions.Definition.{Definition}
+use Rattle.pq_schema.specs.declared.define.definitions.DefinitionKind.{DefinitionKind}
+use Rattle.pq_schema.specs.declared.define.definitions.DefinitionKind.TheVariants as kinds
+use Rattle.pq_schema.specs.declared.scope.scope.FileDefs.{FileDefs}
 use Rattle.pq_schema.specs.Definitions.{qualified}
 use Rattle.pq_schema.specs.Resolution.{Found, Meaning, decides, dotted, found, found_as, found_by, is_package, meaning, prefixes, scopes, single, unless_type}
 use Rattle.pq_schema.specs.Resolution.Found.{FoundType, FoundOther, FoundNothing}
@@ -24,7 +24,7 @@ use Rattle.pq_schema.specs.aux.Along.{Contents}
 use Rattle.pq_schema.specs.aux.Fronts.{BothBegin}
 use Rattle.pq_schema.specs.aux.NameParts.{leading}
 use Rattle.pq_schema.specs.aux.PackageRange.{IsRange}
-use Rattle.pq_schema.specs.declared.package_range.PackageRange.{PackageRange}
+use Rattle.pq_schema.specs.declared.scope.package_range.PackageRange.{PackageRange}
 use Rattle.pq_schema.specs.aux.Outward.{IsOutward, beyond, defined, found_from, in_spots, of_package, opens}
 use Rattle.pq_schema.specs.aux.Scopes.{is_among}
 use Rattle.pq_schema.specs.aux.Spots.{AreSpots, IsPlain}

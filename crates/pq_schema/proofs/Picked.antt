@@ -11,7 +11,7 @@ use Rattle.pq_schema.specs.Contents.{Defs}
 use Rattle.pq_schema.specs.ScopeContents.{Scope}
 use Rattle.pq_schema.specs.Compile.{with_defs, scope_of_links}
 use Rattle.pq_schema.specs.Answers.{picked, scope_by}
-use Rattle.pq_schema.specs.declared.scope.FileDefs.{FileDefs}
+use Rattle.pq_schema.specs.declared.scope.scope.FileDefs.{FileDefs}
 
 abbrev scope_parts : List FileDefs → List FileDefs → Scope
 scope_parts v r = record { visible = v; reach = r }

@@ -15,7 +15,7 @@ use Rattle.pq_schema.proofs.Rising.{by_order, below_before, rises}
 use Rattle.pq_schema.proofs.IndexLemmas.{entry_before, entry_of_name, name_of_entry, name_there, no_entry, tied_same, place_below, none_before}
 use Rattle.pq_schema.proofs.NumberedNames.{one_at}
 use Rattle.pq_schema.specs.Repeated.{is_repeated, AreRepeated}
-use Rattle.pq_schema.specs.declared.definitions.Definition.{Definition}
+use Rattle.pq_schema.specs.declared.define.definitions.Definition.{Definition}
 use Rattle.pq_schema.specs.aux.NameCodes.{code_order}
 use Rattle.pq_schema.specs.aux.CodeOrder.{codes_total}
 use Rattle.pq_schema.specs.aux.Copies.{full_names}

@@ -1,14 +1,14 @@
 -- Worked rows of the resolution of names.
 use Rattle.std.specs.Prelude.{◌≡◌, ℕ, List, [], ◌∷◌, Result, Ok, Err, codes, true, false, refl}
 use Rattle.pq_schema.specs.Resolution.{defined_in, meaning, is_package, single, dotted, first_part, prefixes, scopes, resolved}
-use Rattle.pq_schema.specs.declared.definitions.Definition.{Definition}
-use Rattle.pq_schema.specs.declared.definitions.DefinitionKind.{DefinitionKind}
-use Rattle.pq_schema.specs.declared.definitions.DefinitionKind.TheVariants as kinds
-use Rattle.pq_schema.specs.declared.scope.FileDefs.{FileDefs}
+use Rattle.pq_schema.specs.declared.define.definitions.Definition.{Definition}
+use Rattle.pq_schema.specs.declared.define.definitions.DefinitionKind.{DefinitionKind}
+use Rattle.pq_schema.specs.declared.define.definitions.DefinitionKind.TheVariants as kinds
+use Rattle.pq_schema.specs.declared.scope.scope.FileDefs.{FileDefs}
 use Rattle.pq_schema.specs.ScopeContents.{Scope}
-use Rattle.pq_schema.specs.declared.resolution.Target.{Target}
-use Rattle.pq_schema.specs.declared.resolution.ResolveFault.{ResolveFault}
-use Rattle.pq_schema.specs.declared.resolution.ResolveFault.TheVariants.{NotFound, NotVisible, NotAType}
+use Rattle.pq_schema.specs.declared.search.resolution.Target.{Target}
+use Rattle.pq_schema.specs.declared.search.resolution.ResolveFault.{ResolveFault}
+use Rattle.pq_schema.specs.declared.search.resolution.ResolveFault.TheVariants.{NotFound, NotVisible, NotAType}
 
 abbrev defined : List ℕ → DefinitionKind → Definition
 defined name kind = record { full_name = name; kind = kind; item = 0 }

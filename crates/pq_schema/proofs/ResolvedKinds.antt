@@ -16,16 +16,16 @@ use Rattle.pq_schema.specs.Definitions.{qualified}
 use Rattle.pq_schema.specs.References.{references_of}
 use Rattle.pq_schema.specs.aux.NameKinds.{FilesIn, ScopeIn}
 use Rattle.pq_schema.specs.aux.Queries.{resolved_starts, resolved_by, resolved_advances}
-use Rattle.pq_schema.specs.declared.definitions.Definition.{Definition}
-use Rattle.pq_schema.specs.declared.definitions.DefinitionKind.{DefinitionKind}
-use Rattle.pq_schema.specs.declared.definitions.DefinitionKind.TheVariants as kinds
-use Rattle.pq_schema.specs.declared.references.Reference.{Reference}
-use Rattle.pq_schema.specs.declared.resolution.Resolution.{Resolution}
-use Rattle.pq_schema.specs.declared.resolution.Resolution.TheVariants as resolutions
-use Rattle.pq_schema.specs.declared.resolved.ResolvedPart.{ResolvedPart}
-use Rattle.pq_schema.specs.declared.resolved.ResolvedPart.TheVariants.{ReadScope, ReadTree}
-use Rattle.pq_schema.specs.declared.resolved.ResolvedReference.{ResolvedReference}
-use Rattle.pq_schema.specs.declared.scope.FileDefs.{FileDefs}
+use Rattle.pq_schema.specs.declared.define.definitions.Definition.{Definition}
+use Rattle.pq_schema.specs.declared.define.definitions.DefinitionKind.{DefinitionKind}
+use Rattle.pq_schema.specs.declared.define.definitions.DefinitionKind.TheVariants as kinds
+use Rattle.pq_schema.specs.declared.search.references.Reference.{Reference}
+use Rattle.pq_schema.specs.declared.search.resolution.Resolution.{Resolution}
+use Rattle.pq_schema.specs.declared.search.resolution.Resolution.TheVariants as resolutions
+use Rattle.pq_schema.specs.declared.queries.resolved.ResolvedPart.{ResolvedPart}
+use Rattle.pq_schema.specs.declared.queries.resolved.ResolvedPart.TheVariants.{ReadScope, ReadTree}
+use Rattle.pq_schema.specs.declared.queries.resolved.ResolvedReference.{ResolvedReference}
+use Rattle.pq_schema.specs.declared.scope.scope.FileDefs.{FileDefs}
 
 -- `ResolutionIn N r` is that the file that the resolution `r` names, if it names one, is of the
 -- kind

@@ -13,9 +13,9 @@ use Rattle.pq_rules.proofs.LowerReads.{lower_runs, runs_mean}
 use Rattle.pq_syntax.specs.declared.tree.Node.{Node}
 use Rattle.pq_schema.specs.ScopeContents.{Scope}
 use Rattle.pq_schema.specs.aux.Queries.{resolved_starts, resolved_by, resolved_advances}
-use Rattle.pq_schema.specs.declared.resolved.ResolvedReference.{ResolvedReference}
-use Rattle.pq_schema.specs.declared.resolved.ResolvedPart.{ResolvedPart}
-use Rattle.pq_schema.specs.declared.resolved.ResolvedPart.TheVariants.{ReadScope, ReadTree}
+use Rattle.pq_schema.specs.declared.queries.resolved.ResolvedReference.{ResolvedReference}
+use Rattle.pq_schema.specs.declared.queries.resolved.ResolvedPart.{ResolvedPart}
+use Rattle.pq_schema.specs.declared.queries.resolved.ResolvedPart.TheVariants.{ReadScope, ReadTree}
 
 module _ {K P V : Type 0} (m : Instance K P V) (scope items key : List ℕ → K) (part : ResolvedPart → P) (value : List ResolvedReference → V)
     (scope_read : Answer K V → Scope) (nodes_read : Answer K V → List Node) (level : ℕ)

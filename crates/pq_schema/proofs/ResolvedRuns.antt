@@ -3,10 +3,10 @@ use Rattle.std.proofs.Common.{◌≡◌, ◌⊎◌, ℕ, suc, ◌+◌, ◌<◌, 
 use Rattle.std.proofs.lemmas.List.{at_drop_all, at_drop_more, drop_more, map-append}
 use Rattle.std.specs.Prelude.{flat_map, slice_get}
 use Rattle.pq_links.specs.declared.places.TypePart.{TypePart}
-use Rattle.pq_schema.specs.declared.references.Reference.{Reference}
-use Rattle.pq_schema.specs.declared.resolved.ResolvedReference.{ResolvedReference}
-use Rattle.pq_schema.specs.declared.scope.FileDefs.{FileDefs}
-use Rattle.pq_schema.specs.declared.uses.Use.{Use}
+use Rattle.pq_schema.specs.declared.search.references.Reference.{Reference}
+use Rattle.pq_schema.specs.declared.queries.resolved.ResolvedReference.{ResolvedReference}
+use Rattle.pq_schema.specs.declared.scope.scope.FileDefs.{FileDefs}
+use Rattle.pq_schema.specs.declared.search.uses.Use.{Use}
 use Rattle.pq_syntax.specs.declared.tree.Node.{Node}
 use Rattle.pq_syntax.specs.Places.{enclosing, kept, places, places_after}
 use Rattle.pq_schema.specs.References.{references_at, references_by}

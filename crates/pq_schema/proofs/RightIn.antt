@@ -6,7 +6,7 @@ use Rattle.std.proofs.lemmas.Bool.Decides.{Decides-eqb}
 use Rattle.std.proofs.lemmas.Slice.Eq.{bytes_eq-Decides}
 use Rattle.pq_schema.specs.Definitions.{qualified}
 use Rattle.pq_schema.specs.Resolution.{scopes}
-use Rattle.pq_schema.specs.declared.scope.FileDefs.{FileDefs}
+use Rattle.pq_schema.specs.declared.scope.scope.FileDefs.{FileDefs}
 use Rattle.pq_schema.specs.aux.Grouping.{AreNear, around}
 use Rattle.pq_schema.specs.aux.InPackage.{dotted}
 use Rattle.pq_schema.specs.aux.NameParts.{leading}

@@ -9,8 +9,8 @@ use Rattle.pq_syntax.specs.declared.parts.MethodType.{MethodType}
 use Rattle.pq_syntax.specs.Places.{enclosing, places_after, kept}
 use Rattle.pq_schema.specs.Definitions.{package_of, camel, entry_name, defs_of}
 use Rattle.pq_schema.specs.References.{references_of}
-use Rattle.pq_schema.specs.declared.definitions.Definition.{Definition}
-use Rattle.pq_schema.specs.declared.references.Reference.{Reference}
+use Rattle.pq_schema.specs.declared.define.definitions.Definition.{Definition}
+use Rattle.pq_schema.specs.declared.search.references.Reference.{Reference}
 
 -- the names of entries
 pub entry_names : map entry_name (codes "foo_bar" ∷ codes "_1a" ∷ codes "a_1b" ∷ [])

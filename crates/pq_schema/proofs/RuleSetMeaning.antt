@@ -12,12 +12,12 @@ use Rattle.pq_rules.specs.Value.{Means}
 use Rattle.pq_rules.proofs.Rings.{Strict}
 use Rattle.pq_schema.specs.Compile.{Compiles}
 use Rattle.pq_schema.specs.aux.RuleSet.{text_read, parsed_read, items_read, imports_read, links_read, defs_read, scope_read, schema_rules}
-use Rattle.pq_schema.specs.declared.rules.SchemaKey.{SchemaKey}
-use Rattle.pq_schema.specs.declared.rules.SchemaKey.TheVariants.{Input, Parse, Items, Imports, Linked, Defs, Scope, Resolved}
-use Rattle.pq_schema.specs.declared.rules.SchemaPart.{SchemaPart}
-use Rattle.pq_schema.specs.declared.rules.SchemaPart.TheVariants.{Parsing, Itemizing, Importing, LinkingFiles, Defining, Scoping, Resolving}
-use Rattle.pq_schema.specs.declared.rules.SchemaValue.{SchemaValue}
-use Rattle.pq_schema.specs.declared.rules.SchemaValue.TheVariants as values
+use Rattle.pq_schema.specs.declared.queries.rules.SchemaKey.{SchemaKey}
+use Rattle.pq_schema.specs.declared.queries.rules.SchemaKey.TheVariants.{Input, Parse, Items, Imports, Linked, Defs, Scope, Resolved}
+use Rattle.pq_schema.specs.declared.queries.rules.SchemaPart.{SchemaPart}
+use Rattle.pq_schema.specs.declared.queries.rules.SchemaPart.TheVariants.{Parsing, Itemizing, Importing, LinkingFiles, Defining, Scoping, Resolving}
+use Rattle.pq_schema.specs.declared.queries.rules.SchemaValue.{SchemaValue}
+use Rattle.pq_schema.specs.declared.queries.rules.SchemaValue.TheVariants as values
 use Rattle.pq_schema.specs.SchemaSum.{SchemaSum, SchemaMeans}
 use Rattle.pq_schema.proofs.SchemaMeaning.{schema_means}
 

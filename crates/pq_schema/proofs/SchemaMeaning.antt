@@ -24,7 +24,7 @@ use Rattle.pq_schema.specs.Definitions.{defs_of}
 use Rattle.pq_schema.specs.Compile.{defs_at, with_defs, IsScope, AreResolved}
 use Rattle.pq_schema.specs.Answers.{scope_by}
 use Rattle.pq_schema.specs.aux.Queries.{defs_level, scope_level, resolved_level, resolved_by}
-use Rattle.pq_schema.specs.declared.resolved.ResolvedReference.{ResolvedReference}
+use Rattle.pq_schema.specs.declared.queries.resolved.ResolvedReference.{ResolvedReference}
 use Rattle.pq_schema.proofs.ScopeMeaning.{scope_is, is_scope}
 use Rattle.pq_schema.proofs.ResolvedMeaning.{resolved_is, is_resolved}
 use Rattle.pq_schema.proofs.Picked.{scope_defined}

@@ -16,9 +16,9 @@ use Rattle.pq_schema.specs.ScopeContents.{Scope}
 use Rattle.pq_schema.specs.Compile.{with_defs}
 use Rattle.pq_schema.specs.Answers.{scope_by}
 use Rattle.pq_schema.specs.aux.Queries.{collect_next, scope_starts, scope_advances}
-use Rattle.pq_schema.specs.declared.scope.FileDefs.{FileDefs}
-use Rattle.pq_schema.specs.declared.scopes.ScopePart.{ScopePart}
-use Rattle.pq_schema.specs.declared.scopes.ScopePart.TheVariants.{ReadLinks, Collect}
+use Rattle.pq_schema.specs.declared.scope.scope.FileDefs.{FileDefs}
+use Rattle.pq_schema.specs.declared.queries.scopes.ScopePart.{ScopePart}
+use Rattle.pq_schema.specs.declared.queries.scopes.ScopePart.TheVariants.{ReadLinks, Collect}
 
 module _ {K P V : Type 0} (m : Instance K P V) (linked defs scope : List ℕ → K) (part : ScopePart → P) (value : Scope → V)
     (links_read : Answer K V → Links) (defs_read : Answer K V → Defs) (defined : List ℕ → Defs) (level : ℕ)

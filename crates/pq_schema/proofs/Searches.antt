@@ -1,6 +1,6 @@
 -- How a name is searched: by its first dot.
 use Rattle.std.proofs.Common.{◌≡◌, ◌≢◌, ℕ, suc, ◌<◌, ◌==◌, false, true≢false, List, [], ◌∷◌, ◌++◌, length, get_or, Some, None, refl, sym, subst, arith}
-use Rattle.pq_schema.specs.declared.scope.FileDefs.{FileDefs}
+use Rattle.pq_schema.specs.declared.scope.scope.FileDefs.{FileDefs}
 use Rattle.pq_schema.specs.Resolution.{search, single, dotted, first_part}
 use Rattle.pq_schema.proofs.Prefixes.{not_dot}
 

@@ -3,7 +3,7 @@ use Rattle.std.proofs.Common.{◌≡◌, ℕ, List, [], ◌∷◌, ◌++◌, Opt
 use Rattle.pq_schema.specs.Resolution.{Found, unless_type, prefixes}
 use Rattle.pq_schema.specs.Resolution.Found.{FoundType, FoundOther, FoundNothing}
 use Rattle.pq_schema.specs.aux.Scopes.{before, chain, after_first}
-use Rattle.pq_schema.specs.declared.definitions.Definition.{Definition}
+use Rattle.pq_schema.specs.declared.define.definitions.Definition.{Definition}
 
 -- what is not a type in the inner scopes leaves the outer ones to decide, in whatever order they
 -- are put together

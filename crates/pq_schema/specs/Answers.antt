@@ -11,8 +11,8 @@ use Rattle.pq_schema.specs.ScopeContents.{Scope}
 use Rattle.pq_schema.specs.Definitions.{defs_of}
 use Rattle.pq_schema.specs.References.{references_of}
 use Rattle.pq_schema.specs.Compile.{resolved_in}
-use Rattle.pq_schema.specs.declared.resolved.ResolvedReference.{ResolvedReference}
-use Rattle.pq_schema.specs.declared.scope.FileDefs.{FileDefs}
+use Rattle.pq_schema.specs.declared.queries.resolved.ResolvedReference.{ResolvedReference}
+use Rattle.pq_schema.specs.declared.scope.scope.FileDefs.{FileDefs}
 
 -- `AreDefsBy items itemed f es v` is that the one question is for what the file `f` is without
 -- spans, and that `v` is the definitions of that

@@ -15,14 +15,14 @@ use Rattle.pq_schema.specs.ScopeContents.{Scope}
 use Rattle.pq_schema.specs.Missing.{no_scope}
 use Rattle.pq_schema.specs.Definitions.{defs_of}
 use Rattle.pq_schema.specs.References.{references_of}
-use Rattle.pq_schema.specs.declared.references.Reference.{Reference}
+use Rattle.pq_schema.specs.declared.search.references.Reference.{Reference}
 use Rattle.pq_schema.specs.Resolution.{lookup, resolution_of}
-use Rattle.pq_schema.specs.declared.resolved.ResolvedReference.{ResolvedReference}
-use Rattle.pq_schema.specs.declared.rules.SchemaKey.{SchemaKey}
-use Rattle.pq_schema.specs.declared.rules.SchemaKey.TheVariants as keys
-use Rattle.pq_schema.specs.declared.rules.SchemaValue.{SchemaValue}
-use Rattle.pq_schema.specs.declared.rules.SchemaValue.TheVariants as values
-use Rattle.pq_schema.specs.declared.scope.FileDefs.{FileDefs}
+use Rattle.pq_schema.specs.declared.queries.resolved.ResolvedReference.{ResolvedReference}
+use Rattle.pq_schema.specs.declared.queries.rules.SchemaKey.{SchemaKey}
+use Rattle.pq_schema.specs.declared.queries.rules.SchemaKey.TheVariants as keys
+use Rattle.pq_schema.specs.declared.queries.rules.SchemaValue.{SchemaValue}
+use Rattle.pq_schema.specs.declared.queries.rules.SchemaValue.TheVariants as values
+use Rattle.pq_schema.specs.declared.scope.scope.FileDefs.{FileDefs}
 
 -- `nodes_at files f` is the statements of the file `f`, without spans
 abbrev pub nodes_at : Sources → List ℕ → List Node

@@ -7,9 +7,9 @@ use Rattle.pq_syntax.specs.declared.tree.Statement.TheVariants.{Package, Message
 use Rattle.pq_syntax.specs.declared.parts.Name.{Name}
 use Rattle.pq_syntax.specs.Places.{Item, Place, places, kept}
 use Rattle.pq_schema.specs.Contents.{Defs}
-use Rattle.pq_schema.specs.declared.definitions.Definition.{Definition}
-use Rattle.pq_schema.specs.declared.definitions.DefinitionKind.{DefinitionKind}
-use Rattle.pq_schema.specs.declared.definitions.DefinitionKind.TheVariants as kinds
+use Rattle.pq_schema.specs.declared.define.definitions.Definition.{Definition}
+use Rattle.pq_schema.specs.declared.define.definitions.DefinitionKind.{DefinitionKind}
+use Rattle.pq_schema.specs.declared.define.definitions.DefinitionKind.TheVariants as kinds
 
 -- `qualified scope name` is the full name of `name` in the scope of the full name `scope`: both,
 -- with a dot between, or `name` alone in the empty scope

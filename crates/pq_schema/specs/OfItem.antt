@@ -1,7 +1,7 @@
 -- The resolved references of one item.
 use Rattle.std.specs.Prelude.{ℕ, ◌≡◌, ◌++◌, List}
 use Rattle.std.specs.List.{All}
-use Rattle.pq_schema.specs.declared.resolved.ResolvedReference.{ResolvedReference}
+use Rattle.pq_schema.specs.declared.queries.resolved.ResolvedReference.{ResolvedReference}
 
 -- `item_of r` is the number of the item of the reference `r`
 abbrev pub item_of : ResolvedReference → ℕ

@@ -2,8 +2,8 @@
 use Rattle.std.specs.Prelude.{ℕ, Bool, bytes_eq, not, find, filter, List, Option, option_map}
 use Rattle.std.specs.List.{list_any}
 use Rattle.pq_schema.specs.ScopeContents.{Scope}
-use Rattle.pq_schema.specs.declared.definitions.Definition.{Definition}
-use Rattle.pq_schema.specs.declared.scope.FileDefs.{FileDefs}
+use Rattle.pq_schema.specs.declared.define.definitions.Definition.{Definition}
+use Rattle.pq_schema.specs.declared.scope.scope.FileDefs.{FileDefs}
 
 -- `defines full_name file` is whether `file` has a definition with the full name `full_name`
 abbrev pub defines : List ℕ → FileDefs → Bool

@@ -7,7 +7,7 @@ use Rattle.pq_syntax.specs.declared.tree.Statement.{Statement}
 use Rattle.pq_syntax.specs.declared.tree.Statement.TheVariants.{Field, MapField, Method}
 use Rattle.pq_syntax.specs.Places.{Place, places}
 use Rattle.pq_schema.specs.Definitions.{package_of, scope_in}
-use Rattle.pq_schema.specs.declared.references.Reference.{Reference}
+use Rattle.pq_schema.specs.declared.search.references.Reference.{Reference}
 use Rattle.pq_links.specs.declared.places.TypePart.TheVariants as parts
 
 -- `scalars` lists the names of the scalar types

@@ -1,7 +1,7 @@
 -- Which definitions of a file have the full name of an earlier one.
 use Rattle.std.specs.Prelude.{◌≡◌, ℕ, ◌<◌, Bool, false, bytes_eq, get_or, length, take, List}
 use Rattle.std.specs.List.{list_any}
-use Rattle.pq_schema.specs.declared.definitions.Definition.{Definition}
+use Rattle.pq_schema.specs.declared.define.definitions.Definition.{Definition}
 
 -- `is_repeated d earlier` is whether one of the definitions `earlier` has the full name of the
 -- definition `d`

@@ -3,16 +3,16 @@
 use Rattle.std.specs.Prelude.{ℕ, Bool, true, false, cond, ◌||◌, bytes_eq, nat_eq, List, [], ◌∷◌, ◌++◌, map, Option, Some, None, Result, Ok, Err, codes}
 use Rattle.std.specs.List.{starts_with}
 use Rattle.pq_schema.specs.ScopeContents.{Scope}
-use Rattle.pq_schema.specs.declared.scope.FileDefs.{FileDefs}
+use Rattle.pq_schema.specs.declared.scope.scope.FileDefs.{FileDefs}
 use Rattle.pq_schema.specs.Definitions.{qualified}
-use Rattle.pq_schema.specs.declared.definitions.Definition.{Definition}
-use Rattle.pq_schema.specs.declared.definitions.DefinitionKind.{DefinitionKind}
-use Rattle.pq_schema.specs.declared.definitions.DefinitionKind.TheVariants.{Message, Enum, Service}
-use Rattle.pq_schema.specs.declared.resolution.Target.{Target}
-use Rattle.pq_schema.specs.declared.resolution.ResolveFault.{ResolveFault}
-use Rattle.pq_schema.specs.declared.resolution.ResolveFault.TheVariants.{NotFound, NotVisible, NotAType}
-use Rattle.pq_schema.specs.declared.resolution.Resolution.{Resolution}
-use Rattle.pq_schema.specs.declared.resolution.Resolution.TheVariants as resolutions
+use Rattle.pq_schema.specs.declared.define.definitions.Definition.{Definition}
+use Rattle.pq_schema.specs.declared.define.definitions.DefinitionKind.{DefinitionKind}
+use Rattle.pq_schema.specs.declared.define.definitions.DefinitionKind.TheVariants.{Message, Enum, Service}
+use Rattle.pq_schema.specs.declared.search.resolution.Target.{Target}
+use Rattle.pq_schema.specs.declared.search.resolution.ResolveFault.{ResolveFault}
+use Rattle.pq_schema.specs.declared.search.resolution.ResolveFault.TheVariants.{NotFound, NotVisible, NotAType}
+use Rattle.pq_schema.specs.declared.search.resolution.Resolution.{Resolution}
+use Rattle.pq_schema.specs.declared.search.resolution.Resolution.TheVariants as resolutions
 
 -- `Defined file d` is the definition `d` of the file `file`; `Undefined` is that there is none
 pub data Meaning : Type 0 where

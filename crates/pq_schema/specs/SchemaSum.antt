@@ -17,7 +17,7 @@ use Rattle.pq_links.specs.aux.Queries.{parse_level, items_level, imports_level, 
 use Rattle.pq_schema.specs.ScopeContents.{Scope}
 use Rattle.pq_schema.specs.Compile.{defs_at, IsScope, AreResolved}
 use Rattle.pq_schema.specs.aux.Queries.{defs_level, scope_level, resolved_level, defs_starts, defs_advances, scope_starts, scope_advances, resolved_starts, resolved_advances}
-use Rattle.pq_schema.specs.declared.resolved.ResolvedReference.{ResolvedReference}
+use Rattle.pq_schema.specs.declared.queries.resolved.ResolvedReference.{ResolvedReference}
 
 -- `SchemaSum m files` is that the rule set at the sources `files`, `m`, embeds the seven queries
 pub record SchemaSum {K P V : Type 0} (m : Instance K P V) (files : Sources) : Type 0 where

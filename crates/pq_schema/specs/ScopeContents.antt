@@ -1,6 +1,6 @@
 -- What contracts see of the scope of a file.
 use Rattle.std.specs.Prelude.{List}
-use Rattle.pq_schema.specs.declared.scope.FileDefs.{FileDefs}
+use Rattle.pq_schema.specs.declared.scope.scope.FileDefs.{FileDefs}
 
 -- `Scope` is the files whose definitions a file sees, and the files that it reaches by imports,
 -- each list in order

@@ -23,6 +23,7 @@ pub mod Along
 pub mod Spots
 pub mod Inside
 pub mod Outward
+pub mod Walk
 pub mod SameScopes
 pub mod EqualScopes
 pub mod Queries

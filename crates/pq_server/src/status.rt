@@ -59,6 +59,8 @@ pub(crate) fn unread(kind: ErrorKind) -> (u8, &'static str)
 /// The exit status if `clap` refuses the words of the command line by an error of this kind, and the
 /// line of standard error: memory ran out, or `None` for the text of that error.
 pub(crate) fn refused(kind: error::ErrorKind) -> (u8, Option<&'static str>)
+    // `status`, `line`: The status and the line for words that are no command line are those of the
+    // table: 5 and its line after an allocation failure, else 64 and the text of `clap`.
     ensures status { result.0 ≡ refused_status kind }
     ensures line { option_map (λ line. line.now) result.1 ≡ refused_line kind }
 {
@@ -184,8 +186,9 @@ pub fn run_script<R: Read, W: Write, E: Write>(
     requires reader_left { failed_of reader.old < 2 ^ 63 }
     requires writer_left { failed_of writer.old < 2 ^ 63 }
     requires errors_left { failed_of errors.old < 2 ^ 63 }
-    // The script theorem, with its clauses on failed calls, for an outcome whose status is the
-    // result. The line of that outcome was written, unless a write of it failed.
+    // The clauses `writes`, `read_failed`, `write_failed` and `memory_alone` of `script`, for one
+    // outcome of which the result is the exit status. The line of that outcome was written to
+    // standard error, unless a write of it failed.
     ensures serves { (bytes : List ℕ) × (out : List ℕ) × (outcome : Result ℕ ScriptFault)
         × Scripts fresh (IsAtEnd (R.remaining (inner_of reader.new))) (reads_of reader.new ≡ reads_of reader.old + 4294967296) bytes out outcome
         × Consumes (R.remaining (inner_of reader.old)) (R.remaining (inner_of reader.new)) bytes

@@ -13,11 +13,11 @@ use Rattle.pq_links.specs.declared.files.ParsedFile.{ParsedFile}
 use Rattle.pq_rules.specs.declared.turn.Answer.{Answer}
 use Rattle.pq_rules.specs.declared.turn.Answer.TheVariants.{Value, Cycle}
 use Rattle.pq_checks.specs.Codes.{code_text, severity, severity_number}
-use Rattle.pq_checks.specs.declared.code.Code.{Code}
-use Rattle.pq_checks.specs.declared.code.Code.TheVariants.{ImportWithError, TypeNotFound}
-use Rattle.pq_checks.specs.declared.code.Severity.TheVariants.{Information}
-use Rattle.pq_checks.specs.declared.diagnostic.Diagnostic.{Diagnostic}
-use Rattle.pq_checks.specs.declared.diagnostic.Diagnosed.{Diagnosed}
+use Rattle.pq_checks.specs.declared.errors.code.Code.{Code}
+use Rattle.pq_checks.specs.declared.errors.code.Code.TheVariants.{ImportWithError, TypeNotFound}
+use Rattle.pq_checks.specs.declared.errors.code.Severity.TheVariants.{Information}
+use Rattle.pq_checks.specs.declared.errors.diagnostic.Diagnostic.{Diagnostic}
+use Rattle.pq_checks.specs.declared.errors.diagnostic.Diagnosed.{Diagnosed}
 use Rattle.pq_proto.specs.Compile.{position_in}
 use Rattle.pq_proto.specs.Lists.{list_data}
 use Rattle.pq_proto.specs.Ranges.{range_data}
@@ -27,10 +27,10 @@ use Rattle.pq_proto.specs.declared.key.ProtoKey.TheVariants as keys
 use Rattle.pq_proto.specs.declared.value.Location.{Location}
 use Rattle.pq_proto.specs.declared.value.ProtoValue.{ProtoValue}
 use Rattle.pq_proto.specs.declared.value.ProtoValue.TheVariants as values
-use Rattle.pq_core.specs.declared.request.Want.{Want}
-use Rattle.pq_core.specs.declared.request.Want.TheVariants.{Demand, Fixed}
-use Rattle.pq_core.specs.declared.outcome.Outcome.{Outcome}
-use Rattle.pq_core.specs.declared.outcome.Outcome.TheVariants.{Answered, Plain, Cancelled, Starved, Withdrawn}
+use Rattle.pq_core.specs.declared.values.request.Want.{Want}
+use Rattle.pq_core.specs.declared.values.request.Want.TheVariants.{Demand, Fixed}
+use Rattle.pq_core.specs.declared.values.outcome.Outcome.{Outcome}
+use Rattle.pq_core.specs.declared.values.outcome.Outcome.TheVariants.{Answered, Plain, Cancelled, Starved, Withdrawn}
 use Rattle.pq_core.specs.Replies.{ReplyView}
 use Rattle.pq_session.specs.Labels.{label_model}
 use Rattle.pq_session.specs.Reply.{reply_data}

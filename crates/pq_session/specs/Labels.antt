@@ -1,8 +1,8 @@
 -- The label of a request, as the core keeps it, is seen as the label of a message is.
 use Rattle.std.specs.Prelude.{◌≡◌, pos, int_lt, true}
 use Rattle.pq_frame.specs.Labels.{LabelModel, no_label, integer_label, text_label}
-use Rattle.pq_core.specs.declared.label.Label.{Label}
-use Rattle.pq_core.specs.declared.label.Label.TheVariants.{Unsigned, Negative, Text, None as NoLabel}
+use Rattle.pq_core.specs.declared.values.label.Label.{Label}
+use Rattle.pq_core.specs.declared.values.label.Label.TheVariants.{Unsigned, Negative, Text, None as NoLabel}
 
 -- `label_model label` is `label` as contracts see it: without the form of its number.
 abbrev pub label_model : Label → LabelModel

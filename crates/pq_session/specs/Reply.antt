@@ -8,8 +8,8 @@ use Rattle.pq_frame.specs.Labels.{LabelModel, label_data}
 use Rattle.pq_lex.specs.declared.position.Position.{Position}
 use Rattle.pq_links.specs.declared.files.ParsedFile.{ParsedFile}
 use Rattle.pq_checks.specs.Codes.{code_text, severity, severity_number}
-use Rattle.pq_checks.specs.declared.diagnostic.Diagnostic.{Diagnostic}
-use Rattle.pq_checks.specs.declared.diagnostic.Diagnosed.{Diagnosed}
+use Rattle.pq_checks.specs.declared.errors.diagnostic.Diagnostic.{Diagnostic}
+use Rattle.pq_checks.specs.declared.errors.diagnostic.Diagnosed.{Diagnosed}
 use Rattle.pq_proto.specs.Compile.{position_in}
 use Rattle.pq_proto.specs.Lists.{list_data}
 use Rattle.pq_proto.specs.Ranges.{range_data}

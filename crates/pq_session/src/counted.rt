@@ -21,6 +21,7 @@ pub struct Counted<T> {
 impl<T> Counted<T> {
     /// Counts the calls of `inner` from now on.
     pub fn new(inner: T) -> Counted<T>
+        // `inner`, `reads`, `failed`: The counts of reads and failed calls start at 0.
         ensures inner { inner_of result ≡ inner }
         ensures reads { reads_of result ≡ 0 }
         ensures failed { failed_of result ≡ 0 }
@@ -34,6 +35,7 @@ impl<T> Counted<T> {
 
     /// The number of reads.
     pub fn reads(&self) -> u64
+        // The count of reads.
         ensures { result ≡ reads_of self.now }
     {
         self.reads
@@ -41,6 +43,7 @@ impl<T> Counted<T> {
 
     /// The number of failed calls.
     pub fn failed(&self) -> u64
+        // The count of failed calls.
         ensures { result ≡ failed_of self.now }
     {
         self.failed
@@ -52,9 +55,14 @@ impl<R: Read> Read for Counted<R> {
 
     /// Reads, and counts the read.
     fn read(&mut self, buf: &mut [u8]) -> io::Result<usize>
+        // The count of the bytes read is at most the length of the buffer.
         ensures bound { ReadsAtMost result buf.new }
+        // Of the bytes that the inner reader has left, where they are known, the read takes those
+        // that it gives: none only at their end or for an empty buffer. After an error they stay.
         ensures bytes { ReadConsumes (R.remaining (inner_of self.old)) (R.remaining (inner_of self.new)) result buf.new }
+        // The count of reads rises by one; at 2^64 - 1 it stays.
         ensures reads { reads_of self.new ≡ one_more (reads_of self.old) }
+        // A read that fails is a failed call.
         ensures failed { failed_of self.new ≡ failed_after_read (failed_of self.old) result }
     {
         self.reads = self.reads.saturating_add(1);
@@ -71,8 +79,12 @@ impl<W: Write> Write for Counted<W> {
 
     /// Writes, and counts a failed write.
     fn write(&mut self, buf: &[u8]) -> io::Result<usize>
+        // The count of the bytes written is at most the length of the buffer.
         ensures bound { WritesAtMost result buf.now }
+        // The bytes that the write takes, the first of the buffer, are appended to those of the
+        // inner writer, where these are known. After an error these stay.
         ensures bytes { WriteAppends (W.contents (inner_of self.old)) (W.contents (inner_of self.new)) result buf.now }
+        // A write that fails is a failed call, and so is one that takes no bytes.
         ensures failed { failed_of self.new ≡ failed_after_write (failed_of self.old) result }
     {
         let result = self.inner.write(buf);
@@ -88,7 +100,9 @@ impl<W: Write> Write for Counted<W> {
 
     /// Flushes, and counts a failed flush.
     fn flush(&mut self) -> io::Result<()>
+        // The bytes of the inner writer, where they are known, stay.
         ensures bytes { Keeps (W.contents (inner_of self.old)) (W.contents (inner_of self.new)) }
+        // A flush that fails is a failed call.
         ensures failed { failed_of self.new ≡ failed_after_flush (failed_of self.old) result }
     {
         let result = self.inner.flush();

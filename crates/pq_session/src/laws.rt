@@ -15,8 +15,8 @@ ghost use Rattle.serde_json.specs.Written.{compact_text};
 ghost use Rattle.pq_frame.specs.Labels.{LabelModel, label_data};
 ghost use Rattle.pq_links.specs.declared.files.ParsedFile.{ParsedFile};
 ghost use Rattle.pq_checks.specs.Codes.{severity, severity_number};
-ghost use Rattle.pq_checks.specs.declared.diagnostic.Diagnostic.{Diagnostic};
-ghost use Rattle.pq_checks.specs.declared.diagnostic.Diagnosed.{Diagnosed};
+ghost use Rattle.pq_checks.specs.declared.errors.diagnostic.Diagnostic.{Diagnostic};
+ghost use Rattle.pq_checks.specs.declared.errors.diagnostic.Diagnosed.{Diagnosed};
 ghost use Rattle.pq_core.specs.Replies.{ReplyView};
 ghost use Rattle.pq_proto.specs.Lists.{list_data};
 ghost use Rattle.pq_proto.specs.declared.key.ProtoKey.{ProtoKey};
@@ -33,12 +33,15 @@ ghost use Rattle.pq_session.specs.Uri.{root_of, file_of, uri_of, is_file_name};
 
 /// Every list of bodies has an output, in every state of a script.
 pub fn each_output()
+    // Every list of bodies has an output, in every state of a script.
     ensures { (state : ScriptState) (bodies : List (List ℕ)) → (o : Output) × Outputs state bodies o }
 {}
 
 /// A script that stops within its input has written a prefix of an output for all of its frames,
 /// in whatever state it started.
 pub fn stops_at_a_front()
+    // A script that stopped within its input has written a prefix of an output for all its frames,
+    // in whatever state it started.
     ensures { (start : ScriptState) (bytes out : List ℕ) (bodies : List (List ℕ)) (state : State) →
         Frames bytes bodies state → StopsWithin bytes start out →
         (o : Output) × Outputs start bodies o × StartsWith o.bytes out }
@@ -47,6 +50,8 @@ pub fn stops_at_a_front()
 /// Where a text is the compact text of data, the response that has the text as its result is the
 /// compact text of the response with that data.
 pub fn symbols_spliced()
+    // A response into which a printed text is put is the compact text of the response with that
+    // data.
     ensures { (label : LabelModel) (d : Data) →
         symbols_text label (compact_text d) ≡ compact_text (reply_data (label_data label) d) }
 {}
@@ -54,6 +59,8 @@ pub fn symbols_spliced()
 /// Where a text is the compact text of a descriptor, the response that has the text and a revision
 /// is the compact text of the response with that descriptor and that revision.
 pub fn descriptor_spliced()
+    // A response into which a printed text is put is the compact text of the response with that
+    // data.
     ensures { (label : LabelModel) (d : Data) (revision : ℕ) →
         descriptor_text label (compact_text d) revision
         ≡ compact_text (reply_data (label_data label) (descriptor_data d revision)) }
@@ -62,6 +69,8 @@ pub fn descriptor_spliced()
 /// Reading the URI that was printed of a text gives the text back exactly if the text is the name
 /// of a file. Every name that a URI has is such a text.
 pub fn uris_come_back()
+    // `exact`, `names`: The URI that is printed of a text names it again exactly if it is the name
+    // of a file, and every name that a URI has is one.
     ensures exact { (root_uri : Option (List ℕ)) (name : List ℕ) → IsUtf8 name →
         (file_of (root_of root_uri) (uri_of (root_of root_uri) name) ≡ Some name)
         ↔ (is_file_name (root_of root_uri) name ≡ true) }
@@ -73,6 +82,8 @@ pub fn uris_come_back()
 /// A diagnostic that an editor is shown is the diagnostic of a report, but for the number of its
 /// severity.
 pub fn shown_but_severity()
+    // `plain`, `shown`: A diagnostic that is shown is that of a report but for the number of its
+    // severity.
     ensures plain { (file : ParsedFile) (f : Diagnostic) →
         diagnostic_data file f ≡ item_data (severity_number (severity f.code)) file f }
     ensures shown { (unread : Bool) (file : ParsedFile) (f : Diagnostic) →
@@ -81,12 +92,14 @@ pub fn shown_but_severity()
 
 /// Where each import of a file is read, the list of its diagnostics has them as they are.
 pub fn list_as_it_is()
+    // Where each import is read, the list has each diagnostic as it is.
     ensures { (d : Diagnosed) → has_unread d.diagnostics ≡ false →
         shown_list d ≡ compact_text (list_data (map (diagnostic_data d.file) d.diagnostics)) }
 {}
 
 /// Where each import of a file is read, an editor gets the reply that any other client gets.
 pub fn reply_as_it_is<M>()
+    // Where each import is read, the reply has each diagnostic as it is.
     ensures { (root : List ℕ) (reply : ReplyView ProtoKey ProtoValue M) (d : Diagnosed) →
         answered_diagnostics reply ≡ Some d → has_unread d.diagnostics ≡ false →
         editor_reply_text root reply ≡ reply_text root reply }
@@ -95,6 +108,8 @@ pub fn reply_as_it_is<M>()
 /// Where a text is the compact text of data, the notification that has the text as its list is the
 /// compact text of the notification with that data.
 pub fn published_spliced()
+    // The notification into which a printed list is put is the compact text of the notification
+    // with that data.
     ensures { (uri : List ℕ) (version : Option ℤ) (d : Data) →
         published_text uri version (compact_text d) ≡ compact_text (published_data uri version d) }
 {}

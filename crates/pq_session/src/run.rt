@@ -49,6 +49,8 @@ fn take_piece<W: Write>(
 
 /// The result where the input ends: 1 if it ends between two frames, and `Cut` inside a frame.
 pub fn at_end(frames: &FrameReader) -> Result<u8, ScriptFault>
+    // Of a reader that met no error: 1 exactly where it keeps no byte of an unfinished frame, and
+    // else the error `Cut`.
     ensures { (rest : List ℕ) → frames.now ≡ Reading rest → MatchResult result
         (λ status. (status ≡ 1) × (rest ≡ []))
         (λ e. (e ≡ ScriptFault.Cut) × (rest ≢ [])) }
@@ -87,6 +89,8 @@ pub fn script_over<R: Read, W: Write>(
     reader: &mut Counted<R>,
     writer: &mut Counted<W>,
 ) -> Result<u8, ScriptFault>
+    // `requires reads_left`, `requires reader_left`, `requires writer_left`: Fewer than 2^63 reads
+    // were made before, and fewer than 2^63 calls failed.
     requires reads_left { reads_of reader.old < 2 ^ 63 }
     requires reader_left { failed_of reader.old < 2 ^ 63 }
     requires writer_left { failed_of writer.old < 2 ^ 63 }
@@ -97,11 +101,13 @@ pub fn script_over<R: Read, W: Write>(
         (reads_of reader.new ≡ reads_of reader.old + max_reads) bytes out result
         × Consumes (R.remaining (inner_of reader.old)) (R.remaining (inner_of reader.new)) bytes
         × Appends (W.contents (inner_of writer.old)) (W.contents (inner_of writer.new)) out }
-    // One read failed if the result is `Read`, and none otherwise.
+    // Exactly one read failed if the result is `Read`, and none otherwise.
     ensures read_failed { FailsToRead result (failed_of reader.old) (failed_of reader.new) }
-    // One write or flush failed if the result is `Write`, and none otherwise.
+    // Exactly one write or flush failed if the result is `Write`, and none otherwise.
     ensures write_failed { FailsToWrite result (failed_of writer.old) (failed_of writer.new) }
+    // An allocation failure is `Memory`, never within `Frame` or `Edit`.
     ensures memory_alone { IsMemoryAlone result }
+    // At most 4,294,967,296 reads are made.
     ensures bound { reads_of reader.new ≤ reads_of reader.old + max_reads }
 {
     let mut buffer = [0u8; 16384];
@@ -129,6 +135,8 @@ pub fn script<R: Read, W: Write>(
     reader: &mut Counted<R>,
     writer: &mut Counted<W>,
 ) -> Result<u8, ScriptFault>
+    // `requires reads_left`, `requires reader_left`, `requires writer_left`: Fewer than 2^63 reads
+    // were made before, and fewer than 2^63 calls failed.
     requires reads_left { reads_of reader.old < 2 ^ 63 }
     requires reader_left { failed_of reader.old < 2 ^ 63 }
     requires writer_left { failed_of writer.old < 2 ^ 63 }
@@ -139,11 +147,13 @@ pub fn script<R: Read, W: Write>(
         (reads_of reader.new ≡ reads_of reader.old + max_reads) bytes out result
         × Consumes (R.remaining (inner_of reader.old)) (R.remaining (inner_of reader.new)) bytes
         × Appends (W.contents (inner_of writer.old)) (W.contents (inner_of writer.new)) out }
-    // One read failed if the result is `Read`, and none otherwise.
+    // Exactly one read failed if the result is `Read`, and none otherwise.
     ensures read_failed { FailsToRead result (failed_of reader.old) (failed_of reader.new) }
-    // One write or flush failed if the result is `Write`, and none otherwise.
+    // Exactly one write or flush failed if the result is `Write`, and none otherwise.
     ensures write_failed { FailsToWrite result (failed_of writer.old) (failed_of writer.new) }
+    // An allocation failure is `Memory`, never within `Frame` or `Edit`.
     ensures memory_alone { IsMemoryAlone result }
+    // At most 4,294,967,296 reads are made.
     ensures bound { reads_of reader.new ≤ reads_of reader.old + max_reads }
 {
     let inputs = Inputs::new(alloc)?;

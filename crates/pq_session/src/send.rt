@@ -17,7 +17,10 @@ use std::io::Write;
 /// Writes all of `bytes`. The first call that fails is the last one: the error is `Write`, also for
 /// a write that takes no bytes, and a prefix of `bytes` was written before it.
 pub fn write_all<W: Write>(writer: &mut Counted<W>, bytes: &[u8]) -> Result<(), ScriptFault>
+    // Fewer than 2^63 calls failed before.
     requires { failed_of writer.old < 2 ^ 63 }
+    // All bytes are appended and no call failed; or the error is `Write`, one call failed, and a
+    // prefix was appended.
     ensures { MatchResult result
         (λ _. Appends (W.contents (inner_of writer.old)) (W.contents (inner_of writer.new)) bytes.now × (failed_of writer.new ≡ failed_of writer.old))
         (λ e. (e ≡ ScriptFault.Write) × (failed_of writer.new ≡ failed_of writer.old + 1)
@@ -88,7 +91,11 @@ pub fn write_frame<W: Write>(
     writer: &mut Counted<W>,
     body: &[u8],
 ) -> Result<(), ScriptFault>
+    // Fewer than 2^63 calls failed before.
     requires { failed_of writer.old < 2 ^ 63 }
+    // `ok`, `err`, `counts`: The frame of the body is appended and no call failed; or the error is
+    // `Memory`, and nothing was written; or it is `Write`, one call failed, and a prefix of the
+    // frame was appended.
     ensures ok { OnOk result (Appends (W.contents (inner_of writer.old)) (W.contents (inner_of writer.new)) (written body.now)) }
     ensures err { IfErr result (λ e. (out : List ℕ)
         × StopsWriting (written body.now) out e

@@ -15,6 +15,7 @@ pub mod Steps
 pub mod Failing
 pub mod Choices
 pub mod Shorter
+pub mod SideBySide
 pub mod Openings
 pub mod Separated
 pub mod Taken

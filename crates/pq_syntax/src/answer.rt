@@ -142,9 +142,17 @@ fn parse_exactly(alloc: Global, text: &str) -> Result<Parsed, Memory>
 /// lexical error. The code is `TooDeep` if the token is accepted once each limit of nesting is
 /// raised by one. `Memory` means that an allocation failed.
 pub fn parse(alloc: Global, text: &str) -> Result<Parsed, Memory>
+    // The result is the value of the total function `parsed` at the text.
     ensures exact { IfOk result (λ p. p ≡ parsed text.now) }
+    // A tree is answered only if the text's tokens are a sentence of the grammar with no lexical
+    // error after them, and it is that sentence's tree.
     ensures tree { IfOk result (IfTree (IsTree text.now)) }
+    // An error is answered only at the error place, with its code: some sentence begins with the
+    // tokens before it, and none with those up to and including it. `TooDeep` exactly if the
+    // grammar with each nesting limit one higher goes on.
     ensures fault { IfOk result (IfFaulty (FaultStands text.now)) }
+    // `within`, `fault_within`: Each span of a tree lies in the text and within its statement's
+    // span. An error's span lies in the text.
     ensures within { IfOk result (IfTree (All (IsPlaced (length text.now)))) }
     ensures fault_within { IfOk result (IfFaulty (λ at code. Within at (span 0 (length text.now)))) }
 {

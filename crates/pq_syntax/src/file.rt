@@ -101,6 +101,7 @@ fn count_to(nodes: &[Node], offset: usize) -> usize
 impl File {
     /// The tree with the statements `nodes`.
     pub fn new(nodes: Vec<Node>) -> File
+        // The tree has the statements that were handed in, in order.
         ensures { result ≡ nodes.items }
     {
         let rises = types_rise(&nodes);
@@ -109,6 +110,7 @@ impl File {
 
     /// The statements, in text order.
     pub fn as_slice(&self) -> &[Node]
+        // The statements of the tree, in order.
         ensures { result.now ≡ self.now }
     {
         self.nodes.as_slice()
@@ -117,6 +119,7 @@ impl File {
     /// The number of the only statement that can refer to a type whose span holds `offset`, both
     /// ends included, in logarithmic time. Statements count from 0. `None` says nothing.
     pub fn only_at(&self, offset: usize) -> Option<usize>
+        // No type that another statement refers to holds the offset, both ends included.
         ensures only { IfSome result (IsOnlyAt self.now offset) }
     {
         if !self.rises {

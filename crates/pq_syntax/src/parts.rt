@@ -24,6 +24,7 @@ impl<T> Model for Items<T> {
 impl<T> Items<T> {
     /// The list of `items`.
     pub fn new(items: Vec<T>) -> Self
+        // The list has the items that were handed in, in order.
         ensures { result ≡ items.items }
     {
         Items { items }
@@ -31,6 +32,7 @@ impl<T> Items<T> {
 
     /// The items, in text order.
     pub fn as_slice(&self) -> &[T]
+        // The items of the list, in order.
         ensures { result.now ≡ self.now }
     {
         self.items.as_slice()

@@ -30,6 +30,7 @@ impl<T> Model for Stack<T> {
 impl<T: Drop> Stack<T> {
     /// A stack without statements, which takes its memory from `alloc`.
     pub fn new(alloc: Global) -> Self
+        // A new stack has no open statement.
         ensures { result ≡ [] }
     {
         Stack {
@@ -39,6 +40,8 @@ impl<T: Drop> Stack<T> {
 
     /// Closes each statement that does not contain a statement of the depth `depth` that is next.
     pub fn close_to(&mut self, depth: u8)
+        // The open statements of a walk over a tree that do not contain the next statement, which
+        // is of this depth, are closed.
         ensures { self.new ≡ closed depth self.old }
     {
         'open: while let Some(entry) = self.entries.last() {
@@ -51,6 +54,8 @@ impl<T: Drop> Stack<T> {
 
     /// Opens a statement of the depth `depth`, of which the walk keeps `value`.
     pub fn open(&mut self, depth: u8, value: T) -> Result<(), Memory>
+        // `opened`, `refused`: The statement is open, with what the walk keeps of it. After an
+        // allocation failure the stack is as it was.
         ensures opened { OnOk result (self.new ≡ (depth, value) ∷ self.old) }
         ensures refused { OnErr result (self.new ≡ self.old) }
     {
@@ -60,6 +65,7 @@ impl<T: Drop> Stack<T> {
 
     /// What the walk keeps of the innermost open statement.
     pub fn innermost(&self) -> Option<&T>
+        // What the walk keeps of the innermost open statement.
         ensures { option_copied result ≡ innermost self.now }
     {
         match self.entries.last() {

@@ -13,7 +13,7 @@ pub struct Counted<'a> {
 }
 
 impl<'a> Rules for Counted<'a> {
-    ghost use Rattle.pq_rules.specs.sums.RuleSet.{sums, sums_reach};
+    ghost use Rattle.pq_rules.specs.sums.RuleSet.{sums, sums_code, sums_reach};
     ghost use Rattle.pq_rules.specs.aux.sums.Laws.{sums_lawful};
     ghost use Rattle.pq_rules.specs.aux.sums.Exact.{sums_inputs, key_exact, value_exact};
 
@@ -27,6 +27,8 @@ impl<'a> Rules for Counted<'a> {
 
     ghost reach = { λ s files k. sums_reach files k };
 
+    ghost codes = { sums_code };
+
     ghost lawful = { λ s files. sums_lawful _ files key_exact };
 
     ghost inputs = { λ s k. sums_inputs k };
@@ -35,6 +37,10 @@ impl<'a> Rules for Counted<'a> {
 
     fn level(&self, key: &SumsKey) -> u8 {
         Sums.level(key)
+    }
+
+    fn code(&self, key: &SumsKey) -> u64 {
+        Sums.code(key)
     }
 
     fn file<'b>(&self, key: &'b SumsKey) -> Option<&'b str> {

@@ -298,7 +298,7 @@ fn moved_imports(rt: HostRuntime) {
     );
 }
 
-// A syntax error that moves changes neither what a file is without spans nor its checks.
+// A syntax error that moves is found by the parse alone: without a tree no other rule starts.
 #[test]
 fn moved_errors(rt: HostRuntime) {
     check_rows(
@@ -310,7 +310,7 @@ fn moved_errors(rt: HostRuntime) {
         Diagnostics b.proto => P104 1:7-16\n\
         Diagnostics a.proto => P012 1:7-8\n\
         low a.proto: // note|import 1;|\n\
-        Diagnostics a.proto => P012 2:7-8 | Parse a.proto 3 Input a.proto;Items a.proto 3 Parse a.proto;Diagnostics a.proto 3 Parse a.proto;\n\
+        Diagnostics a.proto => P012 2:7-8 | Parse a.proto 3 Input a.proto;Diagnostics a.proto 3 Parse a.proto;\n\
         ",
     );
 }

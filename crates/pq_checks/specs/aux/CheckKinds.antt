@@ -7,12 +7,12 @@ use Rattle.pq_links.specs.declared.links.Import.{Import}
 use Rattle.pq_links.proofs.NameKinds.{ImportsIn, IfImportsIn}
 use Rattle.pq_checks.specs.Answers.{CheckWords}
 use Rattle.pq_checks.specs.aux.Queries.{link_next, staged, placed, with_state, link_follows, link_placed, check_starts, check_advances}
-use Rattle.pq_checks.specs.declared.checked.CheckPart.{CheckPart}
-use Rattle.pq_checks.specs.declared.checked.CheckPart.TheVariants.{ReadItems, ReadImports, ReadLinks, ReadDefs, ReadScope, ReadReferences, ReadState, ReadNext}
-use Rattle.pq_checks.specs.declared.gathered.Known.{Known}
-use Rattle.pq_checks.specs.declared.gathered.LinkedFile.{LinkedFile}
-use Rattle.pq_checks.specs.declared.fault.Fault.{Fault}
-use Rattle.pq_checks.specs.declared.surroundings.Imported.{Imported}
+use Rattle.pq_checks.specs.declared.queries.checked.CheckPart.{CheckPart}
+use Rattle.pq_checks.specs.declared.queries.checked.CheckPart.TheVariants.{ReadItems, ReadImports, ReadLinks, ReadDefs, ReadScope, ReadReferences, ReadState, ReadNext}
+use Rattle.pq_checks.specs.declared.queries.gathered.Known.{Known}
+use Rattle.pq_checks.specs.declared.queries.gathered.LinkedFile.{LinkedFile}
+use Rattle.pq_checks.specs.declared.errors.fault.Fault.{Fault}
+use Rattle.pq_checks.specs.declared.around.surroundings.Imported.{Imported}
 
 -- `LinkedFileIn N l` is that the names of the file `l` and of its imports are of the kind `N`
 abbrev LinkedFileIn : (List ℕ → Type 0) → LinkedFile → Type 0

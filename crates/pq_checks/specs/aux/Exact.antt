@@ -4,9 +4,9 @@ use Rattle.std.specs.Cmp.{unsigned_Decides}
 use Rattle.std.specs.Cmp.Lexicographic.{pointwise_decides, bytes_decides}
 use Rattle.pq_syntax.proofs.Equality.{Told, one_field, fields, of_struct, of_bare}
 use Rattle.pq_links.proofs.Equality.{parsed_file, part}
-use Rattle.pq_checks.specs.contracts.code as code
-use Rattle.pq_checks.specs.contracts.diagnostic as diagnostic
-use Rattle.pq_checks.specs.contracts.fault as fault
+use Rattle.pq_checks.specs.contracts.errors.code as code
+use Rattle.pq_checks.specs.contracts.errors.diagnostic as diagnostic
+use Rattle.pq_checks.specs.contracts.errors.fault as fault
 
 one_code : Told code.CodePartialEq.TheImpl.ghosts.eq
 one_code = of_bare code.Code.the_type tt

@@ -7,10 +7,10 @@ use Rattle.pq_rules.specs.Turns.{IsLower}
 use Rattle.pq_links.specs.declared.links.Import.{Import}
 use Rattle.pq_checks.specs.Answers.{CheckWords}
 use Rattle.pq_checks.specs.aux.Queries.{link_next, staged, placed, with_state, link_follows, link_placed, check_advances, check_left}
-use Rattle.pq_checks.specs.declared.checked.CheckPart.{CheckPart}
-use Rattle.pq_checks.specs.declared.checked.CheckPart.TheVariants.{ReadItems, ReadImports, ReadLinks, ReadDefs, ReadScope, ReadReferences, ReadState, ReadNext}
-use Rattle.pq_checks.specs.declared.gathered.Known.{Known}
-use Rattle.pq_checks.specs.declared.surroundings.Imported.{Imported}
+use Rattle.pq_checks.specs.declared.queries.checked.CheckPart.{CheckPart}
+use Rattle.pq_checks.specs.declared.queries.checked.CheckPart.TheVariants.{ReadItems, ReadImports, ReadLinks, ReadDefs, ReadScope, ReadReferences, ReadState, ReadNext}
+use Rattle.pq_checks.specs.declared.queries.gathered.Known.{Known}
+use Rattle.pq_checks.specs.declared.around.surroundings.Imported.{Imported}
 
 -- a part that is known has what is left of it
 left_at : (n : ℕ × ℕ) (r part : CheckPart) → r ≡ part → IsLower (check_left part) n → IsLower (check_left r) n

@@ -3,9 +3,9 @@
 use Rattle.std.specs.Prelude.{ℕ, List, Option}
 use Rattle.pq_checks.specs.Compile.{file_faults}
 use Rattle.pq_checks.specs.Surroundings.{Surroundings, other_files}
-use Rattle.pq_checks.specs.declared.fault.Fault.{Fault}
-use Rattle.pq_checks.specs.declared.gathered.Known.{Known}
-use Rattle.pq_checks.specs.declared.surroundings.Imported.{Imported}
+use Rattle.pq_checks.specs.declared.errors.fault.Fault.{Fault}
+use Rattle.pq_checks.specs.declared.queries.gathered.Known.{Known}
+use Rattle.pq_checks.specs.declared.around.surroundings.Imported.{Imported}
 
 -- `surroundings_of k imported next` is the surroundings of the file of `k`, which imports the files
 -- `imported`, and the first bad import of which is `next`

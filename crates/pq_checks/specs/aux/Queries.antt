@@ -7,18 +7,18 @@ use Rattle.pq_links.specs.declared.file_items.FileItems.{FileItems}
 use Rattle.pq_links.specs.declared.links.Import.{Import}
 use Rattle.pq_schema.specs.Contents.{Defs}
 use Rattle.pq_schema.specs.ScopeContents.{Scope}
-use Rattle.pq_schema.specs.declared.resolved.ResolvedReference.{ResolvedReference}
+use Rattle.pq_schema.specs.declared.queries.resolved.ResolvedReference.{ResolvedReference}
 use Rattle.pq_checks.specs.Answers.{CheckWords}
 use Rattle.pq_checks.specs.Surroundings.{state_of}
 use Rattle.pq_checks.specs.aux.Gathering.{checked_of}
-use Rattle.pq_checks.specs.declared.checked.CheckPart.{CheckPart}
-use Rattle.pq_checks.specs.declared.checked.CheckPart.TheVariants.{ReadItems, ReadImports, ReadLinks, ReadDefs, ReadScope, ReadReferences, ReadState, ReadNext}
-use Rattle.pq_checks.specs.declared.checked.Stage.{Stage}
-use Rattle.pq_checks.specs.declared.checked.Stage.TheVariants.{ForStates, ForLinks}
-use Rattle.pq_checks.specs.declared.fault.Fault.{Fault}
-use Rattle.pq_checks.specs.declared.gathered.Known.{Known}
-use Rattle.pq_checks.specs.declared.gathered.LinkedFile.{LinkedFile}
-use Rattle.pq_checks.specs.declared.surroundings.Imported.{Imported}
+use Rattle.pq_checks.specs.declared.queries.checked.CheckPart.{CheckPart}
+use Rattle.pq_checks.specs.declared.queries.checked.CheckPart.TheVariants.{ReadItems, ReadImports, ReadLinks, ReadDefs, ReadScope, ReadReferences, ReadState, ReadNext}
+use Rattle.pq_checks.specs.declared.queries.checked.Stage.{Stage}
+use Rattle.pq_checks.specs.declared.queries.checked.Stage.TheVariants.{ForStates, ForLinks}
+use Rattle.pq_checks.specs.declared.errors.fault.Fault.{Fault}
+use Rattle.pq_checks.specs.declared.queries.gathered.Known.{Known}
+use Rattle.pq_checks.specs.declared.queries.gathered.LinkedFile.{LinkedFile}
+use Rattle.pq_checks.specs.declared.around.surroundings.Imported.{Imported}
 
 -- `check_level` is the level of the query's keys
 abbrev pub check_level : ℕ

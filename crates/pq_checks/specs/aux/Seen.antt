@@ -5,15 +5,15 @@ use Rattle.std.specs.BTreeMap.{BTreeMap, get}
 use Rattle.std.specs.Option.{option_cmp}
 use Rattle.std.specs.Ordering.{nat_cmp}
 use Rattle.pq_syntax.specs.declared.parts.Setting.{Setting}
-use Rattle.pq_checks.specs.Faults.{kind_faults, constant_faults, extend_faults}
+use Rattle.pq_checks.specs.Faults.{kind_faults, constant_faults}
 use Rattle.pq_checks.specs.Members as members
 use Rattle.pq_checks.specs.aux.Spots.{in_spot}
-use Rattle.pq_checks.specs.declared.fault.Fault.{Fault}
-use Rattle.pq_checks.specs.declared.members.ImportName.{ImportName}
-use Rattle.pq_checks.specs.declared.members.Member.{Member}
-use Rattle.pq_checks.specs.declared.members.Opted.{Opted}
-use Rattle.pq_checks.specs.declared.members.ReservedName.{ReservedName}
-use Rattle.pq_checks.specs.declared.spots.Spot.{Spot}
+use Rattle.pq_checks.specs.declared.errors.fault.Fault.{Fault}
+use Rattle.pq_checks.specs.declared.tree.members.ImportName.{ImportName}
+use Rattle.pq_checks.specs.declared.tree.members.Member.{Member}
+use Rattle.pq_checks.specs.declared.tree.members.Opted.{Opted}
+use Rattle.pq_checks.specs.declared.tree.members.ReservedName.{ReservedName}
+use Rattle.pq_checks.specs.declared.tree.spots.Spot.{Spot}
 
 -- `member_seen m` is what contracts see of the member `m`
 abbrev pub member_seen : Member → members.Member
@@ -39,10 +39,6 @@ setting_faults item o = kind_faults o.1.constant.kind item o.0
 -- `constants_in s` is the errors of the constants of the options of the statement of the spot `s`
 abbrev pub constants_in : Spot → List Fault
 constants_in s = flat_map constant_faults (in_spot members.constant_at s)
-
--- `extends_in s` is the error of the statement of the spot `s`, if it is an extend block
-abbrev pub extends_in : Spot → List Fault
-extends_in s = flat_map extend_faults (in_spot members.extend_at s)
 
 -- `allowed aliases enum` is whether the enum `enum` allows two values with one number, by `aliases`
 abbrev pub allowed : BTreeMap (Option ℕ) Bool → Option ℕ → Bool

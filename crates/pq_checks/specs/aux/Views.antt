@@ -5,12 +5,12 @@ use Rattle.std.specs.Borrow.{Bor}
 use Rattle.std.specs.Cmp.Lexicographic.{slice_cmp}
 use Rattle.std.specs.Ordering.{nat_cmp}
 use Rattle.std.specs.declared.cmp.Ordering.{Ordering}
-use Rattle.pq_schema.specs.declared.definitions.Definition.{Definition}
-use Rattle.pq_schema.specs.declared.scope.FileDefs.{FileDefs}
+use Rattle.pq_schema.specs.declared.define.definitions.Definition.{Definition}
+use Rattle.pq_schema.specs.declared.scope.scope.FileDefs.{FileDefs}
 use Rattle.pq_links.specs.declared.places.Part.TheVariants as part
 use Rattle.pq_checks.specs.Faults.{at, when, quoted}
-use Rattle.pq_checks.specs.declared.code.Code.TheVariants as code
-use Rattle.pq_checks.specs.declared.fault.Fault.{Fault}
+use Rattle.pq_checks.specs.declared.errors.code.Code.TheVariants as code
+use Rattle.pq_checks.specs.declared.errors.fault.Fault.{Fault}
 
 -- `twice_line repeated d` is the error of the definition `d` if its full name is `repeated`. The
 -- message ends in the name of no file.

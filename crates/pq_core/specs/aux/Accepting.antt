@@ -4,10 +4,10 @@ use Rattle.pq_core.specs.Moves.{window}
 use Rattle.pq_core.specs.Accounts.{AccountView, next_of}
 use Rattle.pq_core.specs.Stores.{Held}
 use Rattle.pq_core.specs.aux.Rising.{found}
-use Rattle.pq_core.specs.declared.fault.EditFault.{EditFault}
-use Rattle.pq_core.specs.declared.fault.EditFault.TheVariants.{NoClient as EditNoClient, Closed as EditClosed, BadRange, Input}
-use Rattle.pq_core.specs.declared.fault.AcceptFault.{AcceptFault}
-use Rattle.pq_core.specs.declared.fault.AcceptFault.TheVariants.{NoClient, Closed, WindowFull, Memory}
+use Rattle.pq_core.specs.declared.values.fault.EditFault.{EditFault}
+use Rattle.pq_core.specs.declared.values.fault.EditFault.TheVariants.{NoClient as EditNoClient, Closed as EditClosed, BadRange, Input}
+use Rattle.pq_core.specs.declared.values.fault.AcceptFault.{AcceptFault}
+use Rattle.pq_core.specs.declared.values.fault.AcceptFault.TheVariants.{NoClient, Closed, WindowFull, Memory}
 
 -- `IsFullAccount account` is that the window of `account` is full, or that its numbers are used up
 abbrev pub IsFullAccount : {K V M : Type 0} → AccountView K V M → Type 0

@@ -6,8 +6,8 @@ use Rattle.pq_core.specs.Ledger.{Out, Ready, Entry, Client}
 use Rattle.pq_core.specs.Ledger.{Waiting as PlaceWaiting, Running as PlaceRunning}
 use Rattle.pq_core.specs.Lanes.{ReadyView}
 use Rattle.pq_core.specs.Accounts.{AccountView, next_of, IsStage}
-use Rattle.pq_core.specs.declared.account.Stage.{Stage}
-use Rattle.pq_core.specs.declared.account.Stage.TheVariants.{Waiting, Running, Made, Collected}
+use Rattle.pq_core.specs.declared.store.account.Stage.{Stage}
+use Rattle.pq_core.specs.declared.store.account.Stage.TheVariants.{Waiting, Running, Made, Collected}
 
 -- `noted made n stage` is `made` with `n` if the reply in `stage` is made and not collected
 abbrev pub noted : {K T : Type 0} → List ℕ → ℕ → Stage K T → List ℕ

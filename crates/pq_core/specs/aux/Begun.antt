@@ -1,19 +1,19 @@
 -- Auxiliary: the rules that runs have begun.
 use Rattle.std.specs.Prelude.{ℕ, ◌≡◌, ◌⊎◌, List, Option, Some, None}
 use Rattle.pq_rules.specs.Turns.{Machine}
-use Rattle.pq_memo.specs.declared.frame.Frame.{Frame}
-use Rattle.pq_memo.specs.declared.look.Why.{Why}
+use Rattle.pq_memo.specs.declared.stepping.frame.Frame.{Frame}
+use Rattle.pq_memo.specs.declared.table.look.Why.{Why}
 use Rattle.pq_memo.specs.Sound.{Memo}
 use Rattle.pq_memo.specs.Look.{IsUpToDate}
 use Rattle.pq_memo.specs.Table.{HasIn}
 use Rattle.pq_memo.specs.Steps.{IsWalking}
 use Rattle.pq_core.specs.Works.{WorkView}
-use Rattle.pq_core.specs.declared.frames.Pending.{Pending}
-use Rattle.pq_core.specs.declared.frames.Top.{Top}
-use Rattle.pq_core.specs.declared.frames.Top.TheVariants.{Away}
-use Rattle.pq_core.specs.declared.frames.Looked.{Looked}
-use Rattle.pq_core.specs.declared.frames.Looked.TheVariants.{Carry, Stepped, Blocked, Ring}
-use Rattle.pq_core.specs.declared.rising.Place.{Place}
+use Rattle.pq_core.specs.declared.runs.frames.Pending.{Pending}
+use Rattle.pq_core.specs.declared.runs.frames.Top.{Top}
+use Rattle.pq_core.specs.declared.runs.frames.Top.TheVariants.{Away}
+use Rattle.pq_core.specs.declared.runs.frames.Looked.{Looked}
+use Rattle.pq_core.specs.declared.runs.frames.Looked.TheVariants.{Carry, Stepped, Blocked, Ring}
+use Rattle.pq_core.specs.declared.store.rising.Place.{Place}
 use Rattle.pq_core.specs.aux.Rising.{found}
 use Rattle.pq_core.specs.aux.Runs.{RunView}
 use Rattle.pq_core.specs.aux.Rings.{IsFrameOf}

@@ -1,5 +1,5 @@
 -- Auxiliary: what contracts see of the fields of a store.
-use Rattle.pq_core.specs.declared.store.Store.TheInside.{Inside}
+use Rattle.pq_core.specs.declared.store.store.Store.TheInside.{Inside}
 use Rattle.pq_core.specs.Stores.{StoreView}
 
 -- `store_of fields` is the store with the private fields `fields`, as contracts see it

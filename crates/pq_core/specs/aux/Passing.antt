@@ -14,7 +14,7 @@ use Rattle.pq_core.specs.Accounts.{AccountView}
 use Rattle.pq_core.specs.Told.{Told, told_ledger, IsReadyAt, NoneReadyAt}
 use Rattle.pq_core.specs.Stores.{StoreView, StandsFor, IsMadeIn}
 use Rattle.pq_core.specs.Starts.{Log, IsCountedIn}
-use Rattle.pq_core.specs.declared.rising.Place.{Place}
+use Rattle.pq_core.specs.declared.store.rising.Place.{Place}
 use Rattle.pq_core.specs.aux.Rising.{Slots, found, IsAbove}
 use Rattle.pq_core.specs.aux.Changes.{IsSetAt}
 use Rattle.pq_core.specs.aux.Accounts.{made_count}

@@ -5,7 +5,7 @@ use Rattle.pq_core.specs.Ledger.{Entry, Client, Ledger}
 use Rattle.pq_core.specs.Moves.{window}
 use Rattle.pq_core.specs.Lanes.{ReadyView, Tray}
 use Rattle.pq_core.specs.Told.{IsReadyAt, NoneReadyAt}
-use Rattle.pq_core.specs.declared.rising.Place.{Place}
+use Rattle.pq_core.specs.declared.store.rising.Place.{Place}
 use Rattle.pq_core.specs.aux.Rising.{found}
 
 -- `LaneStands puts l c client tray` is that `tray` is the lane of the open `client`, the client `c` of

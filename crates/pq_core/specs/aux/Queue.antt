@@ -2,9 +2,9 @@
 use Rattle.std.specs.Prelude.{ℕ, ◌≡◌, List, [], ◌∷◌, Some, Bool, ◌||◌, not, eqb}
 use Rattle.pq_rules.specs.Relations.{In}
 use Rattle.pq_core.specs.Accounts.{AccountView, IsStage}
-use Rattle.pq_core.specs.declared.request.Request.{Request}
-use Rattle.pq_core.specs.declared.account.Stage.TheVariants.{Waiting}
-use Rattle.pq_core.specs.declared.rising.Place.{Place}
+use Rattle.pq_core.specs.declared.values.request.Request.{Request}
+use Rattle.pq_core.specs.declared.store.account.Stage.TheVariants.{Waiting}
+use Rattle.pq_core.specs.declared.store.rising.Place.{Place}
 use Rattle.pq_core.specs.aux.Rising.{found}
 
 -- `is_of_other c seat` is whether `seat`, a client and a number, is of another client than `c`

@@ -1,7 +1,7 @@
 -- Auxiliary: a map from numbers to values whose numbers rise, in places of which some are vacant.
 use Rattle.std.specs.Prelude.{ℕ, ◌≡◌, ◌+◌, ◌<◌, Bool, cond, eqb, List, [], ◌∷◌, map, slice_get, Option, Some, None, is_some}
 use Rattle.pq_core.specs.Moves.{one_if}
-use Rattle.pq_core.specs.declared.rising.Place.{Place}
+use Rattle.pq_core.specs.declared.store.rising.Place.{Place}
 
 -- `Slots T` is what contracts see of such a map: its places, and how many values more it has room
 -- for

@@ -15,12 +15,12 @@ use Rattle.pq_core.specs.Truth.{IsTrueReply}
 use Rattle.pq_core.specs.aux.Rising.{found}
 use Rattle.pq_core.specs.aux.Runs.{RunView, IsAnswer}
 use Rattle.pq_core.specs.Accounts.{AccountView}
-use Rattle.pq_core.specs.declared.rising.Place.{Place}
-use Rattle.pq_core.specs.declared.frames.Top.TheVariants.{Empty}
-use Rattle.pq_core.specs.declared.run_end.Ending.{Ending}
-use Rattle.pq_core.specs.declared.run_end.Ending.TheVariants.{Stopped, Answered, Starved, Withdrawn}
-use Rattle.pq_core.specs.declared.outcome.Outcome.{Outcome}
-use Rattle.pq_core.specs.declared.outcome.Outcome.TheVariants.{Cancelled, Answered as OutcomeAnswered, Starved as OutcomeStarved, Withdrawn as OutcomeWithdrawn}
+use Rattle.pq_core.specs.declared.store.rising.Place.{Place}
+use Rattle.pq_core.specs.declared.runs.frames.Top.TheVariants.{Empty}
+use Rattle.pq_core.specs.declared.steps.run_end.Ending.{Ending}
+use Rattle.pq_core.specs.declared.steps.run_end.Ending.TheVariants.{Stopped, Answered, Starved, Withdrawn}
+use Rattle.pq_core.specs.declared.values.outcome.Outcome.{Outcome}
+use Rattle.pq_core.specs.declared.values.outcome.Outcome.TheVariants.{Cancelled, Answered as OutcomeAnswered, Starved as OutcomeStarved, Withdrawn as OutcomeWithdrawn}
 
 -- `IsLateFor inputs accounts run` is that `run` was overtaken: an edit was accepted since its start, or
 -- its client was closed

@@ -11,11 +11,11 @@ use Rattle.pq_core.specs.aux.Rising.{found}
 use Rattle.pq_core.specs.aux.Runs.{RunView, IsAnswer, IsStale, IsSameRun, IsHeldUp, ClosesRing, HandedOut, Renewed, out_at}
 use Rattle.pq_core.specs.aux.Begun.{KeepsBegun}
 use Rattle.pq_core.specs.aux.RunEnds.{IsLateFor}
-use Rattle.pq_core.specs.declared.frames.Top.TheVariants.{Empty}
-use Rattle.pq_core.specs.declared.frames.Looked.{Looked}
-use Rattle.pq_core.specs.declared.frames.Looked.TheVariants.{Carry, Stepped, Blocked, Ring}
-use Rattle.pq_core.specs.declared.run_state.RunState.{RunState}
-use Rattle.pq_core.specs.declared.run_state.RunState.TheVariants.{Gone, Overtaken, Away, Answered, Ready}
+use Rattle.pq_core.specs.declared.runs.frames.Top.TheVariants.{Empty}
+use Rattle.pq_core.specs.declared.runs.frames.Looked.{Looked}
+use Rattle.pq_core.specs.declared.runs.frames.Looked.TheVariants.{Carry, Stepped, Blocked, Ring}
+use Rattle.pq_core.specs.declared.steps.run_state.RunState.{RunState}
+use Rattle.pq_core.specs.declared.steps.run_state.RunState.TheVariants.{Gone, Overtaken, Away, Answered, Ready}
 
 -- `IsLate store run` is that `run` was overtaken: an edit was accepted since its start, or its client
 -- was closed

@@ -6,10 +6,10 @@ use Rattle.std.specs.Prelude.{ℕ, ◌≡◌, List}
 use Rattle.std.specs.declared.cmp.Ordering.{Ordering}
 use Rattle.pq_inputs.specs.Sources.{Table}
 use Rattle.pq_rules.specs.Turns.{Machine}
-use Rattle.pq_memo.specs.declared.frame.Frame.{Frame}
+use Rattle.pq_memo.specs.declared.stepping.frame.Frame.{Frame}
 use Rattle.pq_memo.specs.Table.{View, memo_at, KeptOver}
 use Rattle.pq_claims.specs.Claims.{Hold, hold_of}
-use Rattle.pq_core.specs.declared.frames.Top.{Top}
+use Rattle.pq_core.specs.declared.runs.frames.Top.{Top}
 use Rattle.pq_core.specs.aux.Runs.{AreStale, FramesKept, OthersHold, OthersUnwritten, Renewed, WaitStands, run_keys}
 use Rattle.pq_core.specs.aux.Begun.{KeepsBegun}
 

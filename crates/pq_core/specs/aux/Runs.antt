@@ -12,7 +12,7 @@ use Rattle.pq_rules.specs.declared.turn.Answer.{Answer}
 use Rattle.pq_rules.specs.Turns.{Machine, over}
 use Rattle.pq_rules.specs.Relations.{In}
 use Rattle.pq_rules.specs.Value.{Means}
-use Rattle.pq_memo.specs.declared.frame.Frame.{Frame}
+use Rattle.pq_memo.specs.declared.stepping.frame.Frame.{Frame}
 use Rattle.pq_memo.specs.Sound.{Memo}
 use Rattle.pq_memo.specs.Look.{IsUpToDate}
 use Rattle.pq_memo.specs.Table.{View, memo_at, HasIn, KeptOver}
@@ -20,19 +20,19 @@ use Rattle.pq_memo.specs.Writes.{Dated}
 use Rattle.pq_memo.specs.Frames.{Came, IsFrame, Awaits, frame_keys}
 use Rattle.pq_memo.specs.Steps.{IsWhy}
 use Rattle.pq_memo.specs.Demand.{Differ}
-use Rattle.pq_memo.specs.declared.frame.Stage.TheVariants.{Walking}
+use Rattle.pq_memo.specs.declared.stepping.frame.Stage.TheVariants.{Walking}
 use Rattle.pq_claims.specs.Claims.{Hold, Holds, IsClosed, WaitsFor as RunWaitsFor, hold_of}
 use Rattle.pq_core.specs.Ledger.{Out}
 use Rattle.pq_core.specs.Works.{WorkView, HasWhy}
 use Rattle.pq_core.specs.Moves.{out_of}
-use Rattle.pq_core.specs.declared.request.Request.{Request}
-use Rattle.pq_core.specs.declared.request.Want.TheVariants.{Demand}
-use Rattle.pq_core.specs.declared.frames.Pending.{Pending}
-use Rattle.pq_core.specs.declared.frames.Top.{Top}
-use Rattle.pq_core.specs.declared.frames.Top.TheVariants.{Empty, At, Away}
-use Rattle.pq_core.specs.declared.frames.Looked.{Looked}
-use Rattle.pq_core.specs.declared.frames.Looked.TheVariants.{Carry, Stepped, Blocked, Ring}
-use Rattle.pq_core.specs.declared.rising.Place.{Place}
+use Rattle.pq_core.specs.declared.values.request.Request.{Request}
+use Rattle.pq_core.specs.declared.values.request.Want.TheVariants.{Demand}
+use Rattle.pq_core.specs.declared.runs.frames.Pending.{Pending}
+use Rattle.pq_core.specs.declared.runs.frames.Top.{Top}
+use Rattle.pq_core.specs.declared.runs.frames.Top.TheVariants.{Empty, At, Away}
+use Rattle.pq_core.specs.declared.runs.frames.Looked.{Looked}
+use Rattle.pq_core.specs.declared.runs.frames.Looked.TheVariants.{Carry, Stepped, Blocked, Ring}
+use Rattle.pq_core.specs.declared.store.rising.Place.{Place}
 use Rattle.pq_core.specs.aux.Rising.{found}
 
 -- `RunView K P` is a run: its client, the number of its request, the request, the revision of its

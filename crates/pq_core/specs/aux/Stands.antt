@@ -9,7 +9,7 @@ use Rattle.pq_core.specs.Replies.{ReplyView}
 use Rattle.pq_core.specs.Ledger.{Out, Place, Waiting, Running, Ready, Put, Dropped, Entry, Client, Ledger}
 use Rattle.pq_core.specs.Moves.{open_count}
 use Rattle.pq_core.specs.Kept.{Kept}
-use Rattle.pq_core.specs.declared.request.Request.{Request}
+use Rattle.pq_core.specs.declared.values.request.Request.{Request}
 
 -- `RunSeen K` is what the ledger knows of a run
 pub record RunSeen (K : Type 0) : Type 0 where

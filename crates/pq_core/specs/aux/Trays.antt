@@ -5,8 +5,8 @@ use Rattle.pq_rules.specs.Turns.{Machine}
 use Rattle.pq_core.specs.Points.{Point}
 use Rattle.pq_core.specs.Replies.{ReplyView}
 use Rattle.pq_core.specs.Lanes.{ReadyView, ReadyKept, after_next}
-use Rattle.pq_core.specs.declared.moves.Released.{Released}
-use Rattle.pq_core.specs.declared.moves.Released.TheVariants.{Put as ReleasedPut, Full as ReleasedFull, Gone as ReleasedGone, Nothing as ReleasedNothing}
+use Rattle.pq_core.specs.declared.values.moves.Released.{Released}
+use Rattle.pq_core.specs.declared.values.moves.Released.TheVariants.{Put as ReleasedPut, Full as ReleasedFull, Gone as ReleasedGone, Nothing as ReleasedNothing}
 
 -- `LetsOut order machine point puts takes was_full was_gone answer put before after o p` is that of the places `before`
 -- the first reply, of number `put`, which is right, enters the outbox `o`, which is `p` afterwards; or that

@@ -12,7 +12,7 @@ use Rattle.pq_core.specs.Told.{Told}
 use Rattle.pq_core.specs.aux.Advancing.{AllGoOn}
 use Rattle.pq_core.specs.aux.Rising.{found, numbers}
 use Rattle.pq_core.specs.aux.Runs.{RunView}
-use Rattle.pq_core.specs.declared.fault.EditRefused.{EditRefused}
+use Rattle.pq_core.specs.declared.values.fault.EditRefused.{EditRefused}
 
 -- `Sets c change answer l m` is what `Edits` says, but that no run ends
 abbrev pub Sets : {K V M O : Type 0} → ℕ → ChangeView → Result ℕ EditRefused → Ledger K V M O → Ledger K V M O → Type 0

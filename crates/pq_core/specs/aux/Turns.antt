@@ -3,7 +3,7 @@ use Rattle.std.specs.Prelude.{ℕ, ◌≡◌, ◌+◌, ◌<◌, ◌^◌, ◌⊎�
 use Rattle.std.specs.List.{flat_map}
 use Rattle.std.specs.VecDeque.{deque_capacity}
 use Rattle.pq_rules.specs.Relations.{In}
-use Rattle.pq_core.specs.declared.queue.ClientTurn.{ClientTurn}
+use Rattle.pq_core.specs.declared.store.queue.ClientTurn.{ClientTurn}
 use Rattle.pq_core.specs.aux.Queue.{IsOnce}
 
 -- `QueueView` is what contracts see of a queue: the requests that wait, each by its client and number,

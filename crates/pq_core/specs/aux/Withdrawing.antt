@@ -10,17 +10,17 @@ use Rattle.pq_core.specs.Lanes.{ReadyView}
 use Rattle.pq_core.specs.Stores.{Held}
 use Rattle.pq_core.specs.aux.Rising.{found}
 use Rattle.pq_core.specs.aux.Runs.{RunView}
-use Rattle.pq_core.specs.declared.account.Begun.{Begun}
-use Rattle.pq_core.specs.declared.account.Stage.{Stage}
-use Rattle.pq_core.specs.declared.account.Stage.TheVariants.{Waiting, Running, Made, Collected}
-use Rattle.pq_core.specs.declared.fault.WithdrawFault.{WithdrawFault}
-use Rattle.pq_core.specs.declared.fault.WithdrawFault.TheVariants.{NoClient, Closed}
-use Rattle.pq_core.specs.declared.label.Label.{Label}
-use Rattle.pq_core.specs.declared.request.Request.{Request}
-use Rattle.pq_core.specs.declared.outcome.Outcome.TheVariants.{Withdrawn}
-use Rattle.pq_core.specs.declared.rising.Place.{Place}
-use Rattle.pq_core.specs.declared.withdrawing.Owed.{Owed}
-use Rattle.pq_core.specs.declared.withdrawing.Owed.TheVariants.{Nothing, Waits, Runs}
+use Rattle.pq_core.specs.declared.store.account.Begun.{Begun}
+use Rattle.pq_core.specs.declared.store.account.Stage.{Stage}
+use Rattle.pq_core.specs.declared.store.account.Stage.TheVariants.{Waiting, Running, Made, Collected}
+use Rattle.pq_core.specs.declared.values.fault.WithdrawFault.{WithdrawFault}
+use Rattle.pq_core.specs.declared.values.fault.WithdrawFault.TheVariants.{NoClient, Closed}
+use Rattle.pq_core.specs.declared.values.label.Label.{Label}
+use Rattle.pq_core.specs.declared.values.request.Request.{Request}
+use Rattle.pq_core.specs.declared.values.outcome.Outcome.TheVariants.{Withdrawn}
+use Rattle.pq_core.specs.declared.store.rising.Place.{Place}
+use Rattle.pq_core.specs.declared.calls.withdrawing.Owed.{Owed}
+use Rattle.pq_core.specs.declared.calls.withdrawing.Owed.TheVariants.{Nothing, Waits, Runs}
 
 -- `MayNotWithdraw h c fault` is that the client `c` may not withdraw a request, because of `fault`
 abbrev pub MayNotWithdraw : {K P V M : Type 0} → Held K P V M → ℕ → WithdrawFault → Type 0

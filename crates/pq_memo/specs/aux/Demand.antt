@@ -14,11 +14,11 @@ use Rattle.pq_rules.specs.declared.turn.Answer.{Answer}
 use Rattle.pq_rules.specs.Turns.{Machine, IsLower}
 use Rattle.pq_rules.specs.Relations.{Each, In}
 use Rattle.pq_rules.specs.aux.Evaluator.{Distinct, has, left_number}
-use Rattle.pq_memo.specs.declared.frame.Frame.{Frame}
-use Rattle.pq_memo.specs.declared.frame.Stage.{Stage}
-use Rattle.pq_memo.specs.declared.frame.Stage.TheVariants.{Walking, Waiting}
-use Rattle.pq_memo.specs.declared.demanded.Carried.{Carried}
-use Rattle.pq_memo.specs.declared.look.Why.{Why}
+use Rattle.pq_memo.specs.declared.stepping.frame.Frame.{Frame}
+use Rattle.pq_memo.specs.declared.stepping.frame.Stage.{Stage}
+use Rattle.pq_memo.specs.declared.stepping.frame.Stage.TheVariants.{Walking, Waiting}
+use Rattle.pq_memo.specs.declared.demand.demanded.Carried.{Carried}
+use Rattle.pq_memo.specs.declared.table.look.Why.{Why}
 use Rattle.pq_memo.specs.Sound.{Memo}
 use Rattle.pq_memo.specs.Kept.{Kept}
 use Rattle.pq_memo.specs.Look.{IsUpToDate, IsGreen, Lasts, HasLapsed}

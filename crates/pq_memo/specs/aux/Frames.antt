@@ -7,11 +7,11 @@ use Rattle.pq_rules.specs.declared.turn.Answer.{Answer}
 use Rattle.pq_rules.specs.declared.turn.Answer.TheVariants.{Value, Cycle}
 use Rattle.pq_rules.specs.Turns.{Machine, over}
 use Rattle.pq_rules.specs.Value.{Means}
-use Rattle.pq_memo.specs.declared.frame.Frame.{Frame}
-use Rattle.pq_memo.specs.declared.frame.Stage.{Stage}
-use Rattle.pq_memo.specs.declared.frame.Stage.TheVariants.{Walking, Waiting}
-use Rattle.pq_memo.specs.declared.frame.Found.{Found}
-use Rattle.pq_memo.specs.declared.frame.Found.TheVariants.{Verified, Valid, Behind, Outdated, Cyclic}
+use Rattle.pq_memo.specs.declared.stepping.frame.Frame.{Frame}
+use Rattle.pq_memo.specs.declared.stepping.frame.Stage.{Stage}
+use Rattle.pq_memo.specs.declared.stepping.frame.Stage.TheVariants.{Walking, Waiting}
+use Rattle.pq_memo.specs.declared.stepping.frame.Found.{Found}
+use Rattle.pq_memo.specs.declared.stepping.frame.Found.TheVariants.{Verified, Valid, Behind, Outdated, Cyclic}
 use Rattle.pq_memo.specs.Sound.{Memo}
 use Rattle.pq_memo.specs.Look.{IsUpToDate, IsGreen, IsByReads, HasChangedRead, IsLapsedRing}
 use Rattle.pq_memo.specs.Frames.{Sits, front_of}

@@ -1,8 +1,6 @@
--- Auxiliary: the slots of a table, and the index that finds the number of a key.
+-- Auxiliary: the slots of a table, and the numbers of their keys.
 use Rattle.std.specs.Prelude.{ℕ, zero, suc, ◌≡◌, List, [], ◌∷◌, Option, Some, None}
-use Rattle.std.specs.declared.cmp.Ordering.{Ordering}
 use Rattle.pq_memo.specs.Table.{key_at}
-use Rattle.pq_memo.specs.aux.Stack.{place_in}
 
 -- `value_at slots n` is what the slot `n` has beside its key, if there is such a slot
 abbrev pub value_at : {K X : Type 0} → List (K × X) → ℕ → Option X
@@ -16,8 +14,8 @@ with_at [] n x = []
 with_at (e ∷ es) zero x = (e.0, x) ∷ es
 with_at (e ∷ es) (suc n) x = e ∷ with_at es n x
 
--- `IsNumbered order index slots` is that `index` has the number `n` of a key exactly if the slot `n`
--- has that key
-pub record IsNumbered {K X : Type 0} (order : K → K → Ordering) (index : List (K × ℕ)) (slots : List (K × X)) : Type 0 where
-  pub found : (k : K) (n : ℕ) → place_in order index k ≡ Some n → key_at slots n ≡ Some k
-  pub known : (k : K) (n : ℕ) → key_at slots n ≡ Some k → place_in order index k ≡ Some n
+-- `IsNumbered number slots` is that `number` gives the number `n` of a key exactly if the slot `n` has
+-- that key
+pub record IsNumbered {K X : Type 0} (number : K → Option ℕ) (slots : List (K × X)) : Type 0 where
+  pub found : (k : K) (n : ℕ) → number k ≡ Some n → key_at slots n ≡ Some k
+  pub known : (k : K) (n : ℕ) → key_at slots n ≡ Some k → number k ≡ Some n

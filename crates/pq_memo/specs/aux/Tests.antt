@@ -3,10 +3,10 @@ use Rattle.std.specs.Prelude.{ℕ, ◌≡◌, ◌⊎◌, ◌<◌, List, take, So
 use Rattle.pq_inputs.specs.Sources.{Sources}
 use Rattle.pq_rules.specs.Turns.{Machine}
 use Rattle.pq_rules.specs.Relations.{Each}
-use Rattle.pq_memo.specs.declared.state.Passed.{Passed}
-use Rattle.pq_memo.specs.declared.state.Passed.TheVariants.{All, Stale, Newer}
-use Rattle.pq_memo.specs.declared.state.State.{State}
-use Rattle.pq_memo.specs.declared.state.State.TheVariants.{Verified, Valid, Behind, Outdated, Cyclic}
+use Rattle.pq_memo.specs.declared.table.state.Passed.{Passed}
+use Rattle.pq_memo.specs.declared.table.state.Passed.TheVariants.{All, Stale, Newer}
+use Rattle.pq_memo.specs.declared.table.state.State.{State}
+use Rattle.pq_memo.specs.declared.table.state.State.TheVariants.{Verified, Valid, Behind, Outdated, Cyclic}
 use Rattle.pq_memo.specs.Sound.{Memo}
 use Rattle.pq_memo.specs.Look.{IsUpToDate, HasChanged, IsStill, Lasts, HasLapsed, IsOnItsRing, IsOld, IsByReads}
 

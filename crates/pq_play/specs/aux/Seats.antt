@@ -5,7 +5,7 @@ use Rattle.pq_core.specs.Points.{Point}
 use Rattle.pq_core.specs.Replies.{ReplyView}
 use Rattle.pq_core.specs.Outboxes.{Listed, taken_front, TakesNext}
 use Rattle.pq_core.specs.Ledger.{Client}
-use Rattle.pq_core.specs.declared.request.Request.{Request}
+use Rattle.pq_core.specs.declared.values.request.Request.{Request}
 use Rattle.pq_play.specs.Results.{accepted_of}
 
 -- `SeatView K V` is the requests that were accepted from a client, and the outbox that came back at

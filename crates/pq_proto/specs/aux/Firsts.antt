@@ -1,7 +1,7 @@
 -- Auxiliary: the first reference of each item, by which a look-up takes constant time.
 use Rattle.std.specs.Prelude.{◌≡◌, ℕ, suc, ◌<◌, ◌&&◌, nat_eq, cond, get_or, length, List, [], ◌∷◌}
 use Rattle.pq_links.specs.declared.places.TypePart.{TypePart}
-use Rattle.pq_schema.specs.declared.resolved.ResolvedReference.{ResolvedReference}
+use Rattle.pq_schema.specs.declared.queries.resolved.ResolvedReference.{ResolvedReference}
 use Rattle.pq_proto.specs.Types.{is_part}
 
 -- `first_at references n part` is the index of the first of `references` that is the part `part` of

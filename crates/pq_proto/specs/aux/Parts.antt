@@ -1,7 +1,7 @@
 -- Auxiliary: the tokens of a message before and after those of the messages in it.
 use Rattle.std.specs.Prelude.{ℕ, false, List, [], ◌∷◌, ◌++◌, codes}
 use Rattle.json.specs.Token.{Token, begin_object, end_object, begin_array, end_array, key, string, boolean}
-use Rattle.pq_schema.specs.declared.resolved.ResolvedReference.{ResolvedReference}
+use Rattle.pq_schema.specs.declared.queries.resolved.ResolvedReference.{ResolvedReference}
 use Rattle.pq_proto.specs.Bodies.{Body}
 use Rattle.pq_proto.specs.Lists.{list_data}
 use Rattle.pq_proto.specs.Settings.{options_data, settings_in}

@@ -26,17 +26,18 @@ use Rattle.pq_links.proofs.NameKinds.{IfImportsIn, LinksIn, LinkingIn, no_links_
 use Rattle.pq_schema.specs.aux.Queries.{scope_starts, scope_advances, scope_left, resolved_starts, resolved_advances, resolved_left}
 use Rattle.pq_schema.specs.aux.Falls.{scope_falls, resolved_falls}
 use Rattle.pq_schema.specs.aux.NameKinds.{ScopeIn, ScopePartIn, scope_starts_in, scope_advances_in}
-use Rattle.pq_schema.specs.declared.resolved.ResolvedReference.{ResolvedReference}
+use Rattle.pq_schema.specs.declared.queries.resolved.ResolvedReference.{ResolvedReference}
 use Rattle.pq_schema.proofs.ResolvedKinds.{ResolutionIn, ResolvedIn, ResolvedPartIn, resolved_starts_in, resolved_advances_in}
-use Rattle.pq_schema.specs.declared.resolution.Resolution.{Resolution}
-use Rattle.pq_schema.specs.declared.resolution.Resolution.TheVariants as resolutions
+use Rattle.pq_schema.specs.declared.search.resolution.Resolution.{Resolution}
+use Rattle.pq_schema.specs.declared.search.resolution.Resolution.TheVariants as resolutions
 use Rattle.pq_syntax.specs.declared.tree.Node.{Node}
 use Rattle.pq_checks.specs.aux.Falls.{check_falls}
 use Rattle.pq_checks.specs.aux.Queries.{check_starts, check_advances, check_left}
-use Rattle.pq_checks.specs.aux.DiagnosticsTurns.{diagnostics_advances, diagnostics_left, diagnostics_falls}
-use Rattle.pq_checks.specs.declared.diagnostics.DiagnosticsPart.{DiagnosticsPart}
-use Rattle.pq_checks.specs.declared.diagnostics.DiagnosticsPart.TheVariants as diagnostics
-use Rattle.pq_checks.specs.declared.fault.Fault.{Fault}
+use Rattle.pq_checks.specs.Diagnostics.{has_tree as has_parsed_tree}
+use Rattle.pq_checks.specs.aux.DiagnosticsTurns.{diagnostics_advances, diagnostics_left, diagnostics_falls, file_turn}
+use Rattle.pq_checks.specs.declared.queries.diagnostics.DiagnosticsPart.{DiagnosticsPart}
+use Rattle.pq_checks.specs.declared.queries.diagnostics.DiagnosticsPart.TheVariants as diagnostics
+use Rattle.pq_checks.specs.declared.errors.fault.Fault.{Fault}
 use Rattle.pq_links.specs.Place.{place}
 use Rattle.pq_links.specs.declared.places.Part.TheVariants as part
 use Rattle.pq_proto.specs.Compile.{has_tree, is_failed, offset_at}
@@ -44,7 +45,7 @@ use Rattle.pq_proto.specs.Definition.{definition_at, type_item, holds}
 use Rattle.pq_checks.specs.aux.CheckKinds.{AsksIn, CheckPartIn, check_starts_in, check_advances_in}
 use Rattle.pq_proto.specs.Levels.{level_of}
 use Rattle.pq_proto.specs.aux.Outputs.{faults_read, items_read, parsed_read, resolved_read, bare_turn, tree_turn, descriptor_advances, descriptor_left, descriptor_falls, references_turn, target_turn, definition_advances, definition_left, definition_falls}
-use Rattle.pq_proto.specs.aux.RuleSet.{text_read, imports_read, links_read, defs_read, scope_read, check_words, proto_file, proto_start, proto_advance, proto_left, proto_rules, descriptor_turn, definition_turn, own_name, makers, proto_reach}
+use Rattle.pq_proto.specs.aux.RuleSet.{text_read, imports_read, links_read, defs_read, scope_read, check_words, proto_file, proto_start, proto_advance, proto_left, proto_rules, descriptor_turn, definition_turn, diagnostics_turn, own_name, makers, proto_reach}
 use Rattle.pq_proto.specs.declared.key.ProtoKey.{ProtoKey}
 use Rattle.pq_proto.specs.declared.key.ProtoKey.TheVariants as keys
 use Rattle.pq_proto.specs.declared.queries.definition.DefinitionPart.{DefinitionPart}
@@ -77,8 +78,8 @@ proto_falls (Checking p) a q r e =
     embedded_falls (λ x. Checking x) (λ v. values.Checks v) proto_left check_left (check_advances check_words p a) (check_left p)
     (λ x. refl) (check_falls check_words a p) q r e
 proto_falls (Diagnosing p) a q r e =
-    embedded_falls (λ x. Diagnosing x) (λ v. values.Diagnostics v) proto_left diagnostics_left (diagnostics_advances (λ n. keys.Parse n) (faults_read a) (parsed_read a) p) (diagnostics_left p)
-    (λ x. refl) (diagnostics_falls (λ n. keys.Parse n) (faults_read a) (parsed_read a) p) q r e
+    embedded_falls (λ x. Diagnosing x) (λ v. values.Diagnostics v) proto_left diagnostics_left (diagnostics_advances (λ n. keys.Checks n) (faults_read a) (parsed_read a) p) (diagnostics_left p)
+    (λ x. refl) (diagnostics_falls (λ n. keys.Checks n) (faults_read a) (parsed_read a) p) q r e
 proto_falls (Describing p) a q r e =
     embedded_falls (λ x. Describing x) (λ v. values.Descriptor v) proto_left descriptor_left (descriptor_advances p a) (descriptor_left p)
     (λ x. refl) (descriptor_falls p a) q r e
@@ -120,8 +121,8 @@ abbrev KeyIn : List (List ℕ) → ℕ → ProtoKey → ProtoKey → Type 0
 KeyIn ns l root k = In (own_name k) ns × (level_of k ≤ l) × ((k ≡ root) ⊎ (level_of k ≤ 9))
 
 abbrev DiagnosticsPartIn : List (List ℕ) → DiagnosticsPart → Type 0
-DiagnosticsPartIn ns (diagnostics.ReadChecks f) = In f ns
-DiagnosticsPartIn ns (diagnostics.ReadFile faults) = Unit {0}
+DiagnosticsPartIn ns (diagnostics.ReadFile f) = In f ns
+DiagnosticsPartIn ns (diagnostics.ReadChecks file) = Unit {0}
 
 abbrev DescriptorPartIn : List (List ℕ) → DescriptorPart → Type 0
 DescriptorPartIn ns (descriptors.ReadChecks f) = In f ns
@@ -272,10 +273,14 @@ module _ (order : ProtoKey → ProtoKey → Ordering) (files : Sources) where
         embedded_in KIn (CheckPartIn N) (λ (fs : List Fault). Unit {0}) PIn (ValueIn ns) (λ q. Checking q) (λ v. values.Checks v)
         (λ q j. (h, j)) (λ v j. j) (check_starts (λ n. keys.Items n) f)
         (check_starts_in KIn check_words N (checks_ask h) f i.0)
-    starts_in (keys.Diagnostics f) i = let h : 9 ≤ l = i.1 in (asks (keys.Checks f) i.0 (omega arith) (omega arith), (h, i.0))
+    starts_in (keys.Diagnostics f) i = let h : 9 ≤ l = i.1 in (asks (keys.Parse f) i.0 (omega arith) (omega arith), (h, i.0))
     starts_in (keys.Descriptor f) i = let h : 10 ≤ l = i.1 in (asks (keys.Checks f) i.0 (omega arith) (omega arith), (h, i.0))
     starts_in (keys.Symbols f) i = let h : 10 ≤ l = i.1 in (asks (keys.Parse f) i.0 (omega arith) (omega arith), tt)
     starts_in (keys.Definition f place) i = let h : 10 ≤ l = i.1 in (asks (keys.Parse f) i.0 (omega arith) (omega arith), (h, i.0))
+
+    diagnoses : (f : List ℕ) (file : ParsedFile) (tree : Bool) → 9 ≤ l → In f ns → TurnIn KIn PIn (ValueIn ns) (diagnostics_turn (file_turn (λ n. keys.Checks n) f file tree))
+    diagnoses f file true h i = (asks (keys.Checks f) i (omega arith) (omega arith), (h, tt))
+    diagnoses f file false h i = tt
 
     describes : (f : List ℕ) (failed : Bool) → 10 ≤ l → In f ns → TurnIn KIn PIn (ValueIn ns) (descriptor_turn (bare_turn f failed))
     describes f true h i = tt
@@ -323,8 +328,8 @@ module _ (order : ProtoKey → ProtoKey → Ordering) (files : Sources) where
         embedded_in KIn (CheckPartIn N) (λ (fs : List Fault). Unit {0}) PIn (ValueIn ns) (λ q. Checking q) (λ v. values.Checks v)
         (λ q x. (h, x)) (λ v x. x) (check_advances check_words p a)
         (check_advances_in KIn check_words N (checks_ask h) p a (imports_in ns a j) i.1)
-    advances_in (Diagnosing (diagnostics.ReadChecks f)) a i j = let h : 9 ≤ l = i.0 in (asks (keys.Parse f) i.1 (omega arith) (omega arith), (h, tt))
-    advances_in (Diagnosing (diagnostics.ReadFile faults)) a i j = tt
+    advances_in (Diagnosing (diagnostics.ReadFile f)) a i j = diagnoses f (parsed_read a) (has_parsed_tree (parsed_read a)) i.0 i.1
+    advances_in (Diagnosing (diagnostics.ReadChecks file)) a i j = tt
     advances_in (Describing (descriptors.ReadChecks f)) a i j = describes f (is_failed (faults_read a)) i.0 i.1
     advances_in (Describing (descriptors.ReadItems f)) a i j = trees f (items_read a) (has_tree (items_read a)) i.0 i.1
     advances_in (Describing (descriptors.ReadResolved f file)) a i j = tt

@@ -2,6 +2,7 @@
 -- says what its keys mean.
 use Rattle.std.specs.Prelude.{ℕ, List, [], ◌∷◌, map, Option, Some, None}
 use Rattle.pq_inputs.specs.Sources.{Sources}
+use Rattle.pq_rules.specs.aux.Codes.{coded, text_code}
 use Rattle.pq_rules.specs.declared.turn.Turn.{Turn}
 use Rattle.pq_rules.specs.declared.turn.Turn.TheVariants.{Done}
 use Rattle.pq_rules.specs.declared.turn.Answer.{Answer}
@@ -22,16 +23,16 @@ use Rattle.pq_schema.specs.Contents.{Defs}
 use Rattle.pq_schema.specs.ScopeContents.{Scope}
 use Rattle.pq_schema.specs.Missing.{no_defs, no_scope}
 use Rattle.pq_schema.specs.aux.Queries.{defs_starts, defs_advances, scope_starts, scope_advances, scope_left, resolved_starts, resolved_advances, resolved_left}
-use Rattle.pq_schema.specs.declared.resolved.ResolvedReference.{ResolvedReference}
-use Rattle.pq_schema.specs.declared.resolved.ResolvedPart.{ResolvedPart}
-use Rattle.pq_schema.specs.declared.scopes.ScopePart.{ScopePart}
+use Rattle.pq_schema.specs.declared.queries.resolved.ResolvedReference.{ResolvedReference}
+use Rattle.pq_schema.specs.declared.queries.resolved.ResolvedPart.{ResolvedPart}
+use Rattle.pq_schema.specs.declared.queries.scopes.ScopePart.{ScopePart}
 use Rattle.pq_checks.specs.Answers.{CheckWords}
 use Rattle.pq_checks.specs.aux.DiagnosticsTurns.{diagnostics_starts, diagnostics_advances, diagnostics_left}
 use Rattle.pq_checks.specs.aux.Queries.{check_starts, check_advances, check_left}
-use Rattle.pq_checks.specs.declared.checked.CheckPart.{CheckPart}
-use Rattle.pq_checks.specs.declared.diagnostic.Diagnosed.{Diagnosed}
-use Rattle.pq_checks.specs.declared.diagnostics.DiagnosticsPart.{DiagnosticsPart}
-use Rattle.pq_checks.specs.declared.fault.Fault.{Fault}
+use Rattle.pq_checks.specs.declared.queries.checked.CheckPart.{CheckPart}
+use Rattle.pq_checks.specs.declared.errors.diagnostic.Diagnosed.{Diagnosed}
+use Rattle.pq_checks.specs.declared.queries.diagnostics.DiagnosticsPart.{DiagnosticsPart}
+use Rattle.pq_checks.specs.declared.errors.fault.Fault.{Fault}
 pub use Rattle.pq_proto.specs.Keys.{own_name}
 use Rattle.pq_proto.specs.Levels.{level_of}
 use Rattle.pq_proto.specs.aux.Outputs.{faults_read, items_read, parsed_read, resolved_read, descriptor_starts, descriptor_advances, descriptor_left, symbols_starts, symbols_advances, definition_starts, definition_advances, definition_left}
@@ -148,7 +149,7 @@ proto_start (keys.Defs f) = defs_turn (defs_starts (λ n. keys.Items n) f)
 proto_start (keys.Scope f) = scope_turn (scope_starts (λ n. keys.Linked n) f)
 proto_start (keys.Resolved f) = resolved_turn (resolved_starts (λ n. keys.Scope n) f)
 proto_start (keys.Checks f) = checks_turn (check_starts (λ n. keys.Items n) f)
-proto_start (keys.Diagnostics f) = diagnostics_turn (diagnostics_starts (λ n. keys.Checks n) f)
+proto_start (keys.Diagnostics f) = diagnostics_turn (diagnostics_starts (λ n. keys.Parse n) f)
 proto_start (keys.Descriptor f) = descriptor_turn (descriptor_starts f)
 proto_start (keys.Symbols f) = symbols_turn (symbols_starts f)
 proto_start (keys.Definition f place) = definition_turn (definition_starts f place)
@@ -163,7 +164,7 @@ proto_advance Defining a = defs_turn (defs_advances (nodes_in (items_read a)))
 proto_advance (Scoping q) a = scope_turn (scope_advances (λ n. keys.Defs n) (links_read a) (defs_read a) q)
 proto_advance (Resolving q) a = resolved_turn (resolved_advances (λ n. keys.Items n) (scope_read a) (nodes_in (items_read a)) q)
 proto_advance (Checking q) a = checks_turn (check_advances check_words q a)
-proto_advance (Diagnosing q) a = diagnostics_turn (diagnostics_advances (λ n. keys.Parse n) (faults_read a) (parsed_read a) q)
+proto_advance (Diagnosing q) a = diagnostics_turn (diagnostics_advances (λ n. keys.Checks n) (faults_read a) (parsed_read a) q)
 proto_advance (Describing q) a = descriptor_turn (descriptor_advances q a)
 proto_advance Listing a = symbols_turn (symbols_advances a)
 proto_advance (Locating q) a = definition_turn (definition_advances q a)
@@ -211,3 +212,19 @@ makers =
 -- and of the files that any file imports
 abbrev pub proto_reach : Sources → ProtoKey → List ProtoKey
 proto_reach files k = k ∷ keys_by makers (own_name k ∷ all_mentioned files)
+
+-- `proto_code key` is a number that is made of `key`
+abbrev pub proto_code : ProtoKey → ℕ
+proto_code (keys.Input file) = coded (text_code file) 0
+proto_code (keys.Parse file) = coded (text_code file) 1
+proto_code (keys.Items file) = coded (text_code file) 2
+proto_code (keys.Imports file) = coded (text_code file) 3
+proto_code (keys.Linked file) = coded (text_code file) 4
+proto_code (keys.Defs file) = coded (text_code file) 5
+proto_code (keys.Scope file) = coded (text_code file) 6
+proto_code (keys.Resolved file) = coded (text_code file) 7
+proto_code (keys.Checks file) = coded (text_code file) 8
+proto_code (keys.Diagnostics file) = coded (text_code file) 9
+proto_code (keys.Descriptor file) = coded (text_code file) 10
+proto_code (keys.Symbols file) = coded (text_code file) 11
+proto_code (keys.Definition file place) = coded (coded (text_code file) place.line) place.character

@@ -27,7 +27,7 @@ pub(crate) struct References<'a> {
 
 impl<'a> Model for References<'a> {
     ghost use Rattle.std.specs.Prelude.{List};
-    ghost use Rattle.pq_schema.specs.declared.resolved.ResolvedReference.{ResolvedReference as Resolved};
+    ghost use Rattle.pq_schema.specs.declared.queries.resolved.ResolvedReference.{ResolvedReference as Resolved};
     ghost use Rattle.pq_links.specs.declared.places.TypePart.TheVariants as parts;
     ghost use Rattle.pq_proto.specs.aux.Firsts.{IsFirsts};
 

@@ -32,6 +32,7 @@ impl Model for Printer {
 impl Printer {
     /// A text without tokens, which takes its memory from `alloc`.
     pub fn new(alloc: Global) -> Printer
+        // The text of a printer is its tokens, printed; a new one has none.
         ensures { result ≡ [] }
     {
         Printer {
@@ -39,8 +40,19 @@ impl Printer {
         }
     }
 
+    /// A text without tokens, with room for `count` bytes. It takes its memory from `alloc`.
+    pub fn with_capacity(alloc: Global, count: usize) -> Result<Printer, Memory>
+        // The text of a printer is its tokens, printed; a new one has none.
+        ensures { IfOk result (λ p. p ≡ []) }
+    {
+        Ok(Printer {
+            out: Writer::new(Vec::with_capacity(alloc, count)?),
+        })
+    }
+
     /// The text.
     pub fn into_string(self) -> String
+        // The text of a printer is its tokens, printed; a new one has none.
         ensures { string_bytes result ≡ print self }
     {
         match String::from_utf8(self.out.into_inner()) {
@@ -51,6 +63,7 @@ impl Printer {
 
     /// The text, as one that is shared.
     pub fn into_text(self, alloc: Global) -> Result<Text, Memory>
+        // The text of a printer is its tokens, printed; a new one has none.
         ensures { IfOk result (λ t. t ≡ print self) }
     {
         Text::from_string(alloc, self.into_string())
@@ -58,6 +71,7 @@ impl Printer {
 
     /// Prints the start of an object.
     pub fn begin_object(&mut self) -> Result<(), Memory>
+        // The call adds the tokens that it names.
         ensures { OnOk result (self.new ≡ self.old ++ begin_object ∷ []) }
     {
         self.out.begin_object()?;
@@ -66,6 +80,7 @@ impl Printer {
 
     /// Prints the end of an object.
     pub fn end_object(&mut self) -> Result<(), Memory>
+        // The call adds the tokens that it names.
         ensures { OnOk result (self.new ≡ self.old ++ end_object ∷ []) }
     {
         self.out.end_object()?;
@@ -74,6 +89,7 @@ impl Printer {
 
     /// Prints the start of a list.
     pub fn begin_array(&mut self) -> Result<(), Memory>
+        // The call adds the tokens that it names.
         ensures { OnOk result (self.new ≡ self.old ++ begin_array ∷ []) }
     {
         self.out.begin_array()?;
@@ -82,6 +98,7 @@ impl Printer {
 
     /// Prints the end of a list.
     pub fn end_array(&mut self) -> Result<(), Memory>
+        // The call adds the tokens that it names.
         ensures { OnOk result (self.new ≡ self.old ++ end_array ∷ []) }
     {
         self.out.end_array()?;
@@ -90,6 +107,7 @@ impl Printer {
 
     /// Prints the name of a member.
     pub fn key(&mut self, name: &str) -> Result<(), Memory>
+        // The call adds the tokens that it names.
         ensures { OnOk result (self.new ≡ self.old ++ key name.now ∷ []) }
     {
         self.out.key(name)?;
@@ -98,6 +116,7 @@ impl Printer {
 
     /// Prints a text.
     pub fn text(&mut self, text: &str) -> Result<(), Memory>
+        // The call adds the tokens that it names.
         ensures { OnOk result (self.new ≡ self.old ++ string text.now ∷ []) }
     {
         self.out.string(text)?;
@@ -106,6 +125,7 @@ impl Printer {
 
     /// Prints the number `n`.
     pub fn unsigned(&mut self, n: u64) -> Result<(), Memory>
+        // The call adds the tokens that it names.
         ensures { OnOk result (self.new ≡ self.old ++ number (decimal n) ∷ []) }
     {
         self.out.u64(n)?;
@@ -114,6 +134,7 @@ impl Printer {
 
     /// Prints the number `n`, which may be below zero.
     pub fn signed(&mut self, n: i64) -> Result<(), Memory>
+        // The call adds the tokens that it names.
         ensures { OnOk result (self.new ≡ self.old ++ number (signed_decimal n) ∷ []) }
     {
         self.out.i64(n)?;
@@ -122,7 +143,9 @@ impl Printer {
 
     /// Prints a number by its text.
     pub fn number(&mut self, text: &str) -> Result<(), Memory>
+        // The text is a number of JSON (RFC 8259).
         requires { IsNumber text.now }
+        // The call adds the tokens that it names.
         ensures { OnOk result (self.new ≡ self.old ++ number text.now ∷ []) }
     {
         self.out.number(text)?;
@@ -131,6 +154,7 @@ impl Printer {
 
     /// Prints `null`.
     pub fn null(&mut self) -> Result<(), Memory>
+        // The call adds the tokens that it names.
         ensures { OnOk result (self.new ≡ self.old ++ null ∷ []) }
     {
         self.out.null()?;
@@ -139,6 +163,7 @@ impl Printer {
 
     /// Prints the member `name` with the text `text`.
     pub fn text_member(&mut self, name: &str, text: &str) -> Result<(), Memory>
+        // The call adds the tokens that it names.
         ensures { OnOk result (self.new ≡ self.old ++ key name.now ∷ string text.now ∷ []) }
     {
         self.key(name)?;
@@ -148,6 +173,7 @@ impl Printer {
 
     /// Prints the member `name` with the number `n`.
     pub fn unsigned_member(&mut self, name: &str, n: u64) -> Result<(), Memory>
+        // The call adds the tokens that it names.
         ensures { OnOk result (self.new ≡ self.old ++ key name.now ∷ number (decimal n) ∷ []) }
     {
         self.key(name)?;
@@ -157,6 +183,7 @@ impl Printer {
 
     /// Prints the member `name` with `true` or `false`.
     pub fn boolean_member(&mut self, name: &str, b: bool) -> Result<(), Memory>
+        // The call adds the tokens that it names.
         ensures { OnOk result (self.new ≡ self.old ++ key name.now ∷ boolean b ∷ []) }
     {
         self.key(name)?;
@@ -166,6 +193,7 @@ impl Printer {
 
     /// Prints the member `name` with null.
     pub fn null_member(&mut self, name: &str) -> Result<(), Memory>
+        // The call adds the tokens that it names.
         ensures { OnOk result (self.new ≡ self.old ++ key name.now ∷ null ∷ []) }
     {
         self.key(name)?;
@@ -175,6 +203,7 @@ impl Printer {
 
     /// Prints the member `name` with the empty list.
     pub fn empty_member(&mut self, name: &str) -> Result<(), Memory>
+        // The call adds the tokens that it names.
         ensures { OnOk result (self.new
             ≡ self.old ++ key name.now ∷ begin_array ∷ end_array ∷ []) }
     {

@@ -20,6 +20,7 @@ fn print_position(out: &mut Printer, position: Position) -> Result<(), Memory>
 
 /// Prints the range from `start` to `end`. Only `Memory` is an error, after an allocation failure.
 pub fn print_range(out: &mut Printer, start: Position, end: Position) -> Result<(), Memory>
+    // The call adds the tokens that it names.
     ensures { OnOk result (out.new ≡ out.old ++ tokens_of (range_data start end)) }
 {
     out.begin_object()?;

@@ -18,6 +18,7 @@ pub fn compile(
     inputs: &Inputs,
     key: &ProtoKey,
 ) -> Result<Answer<ProtoKey, ProtoValue>, Memory>
+    // The answer is what the key compiles to at the sources now.
     ensures compiled { IfOk result (λ a. Compiles inputs.now.files key.now a) }
 {
     from_scratch(alloc, &ProtoRules, inputs, key)

@@ -27,34 +27,43 @@ use crate::key::ProtoKey;
 
 /// At all sources, what a key of the rule set means is exactly what it compiles to.
 pub fn proto_values()
+    // At all sources, what a key means in the rule set is exactly what it compiles to.
     ensures means { (files : Sources) (key : KeyContents) (a : Answer KeyContents ValueContents) → Means (over ⟦<ProtoKey as Ord>⟧.cmp proto_rules files) key a ↔ Compiles files key a }
 {}
 
 /// Each key compiles to one answer: it has an answer, and two answers of it are the same.
 pub fn one_compilation()
+    // `some`, `one`: Each key compiles to one answer, at all sources.
     ensures some { (files : Sources) (key : KeyContents) → (a : Answer KeyContents ValueContents) × Compiles files key a }
     ensures one { (files : Sources) (key : KeyContents) (a b : Answer KeyContents ValueContents) → Compiles files key a → Compiles files key b → a ≡ b }
 {}
 
 /// Keys of which neither comes before the other are the same key.
 pub fn equal_keys()
+    // Keys of the queries that compare as equal are the same key.
     ensures { (a b : KeyContents) → key_order.ghosts.cmp a b ≡ Equal → a ≡ b }
 {}
 
 /// Keys are ordered by the numbers of their queries, then by the bytes of their files' names, then by
 /// their places.
 pub fn keys_in_order()
+    // Keys are ordered as `Keys` says: by the numbers of their queries, then the bytes of their
+    // files' names, then their places.
     ensures { (a b : KeyContents) → key_order.ghosts.cmp a b ≡ key_cmp a b }
 {}
 
 /// The descriptor of a file asks its errors by the table; unless one is severe, its tree without
 /// spans; and of a tree its resolved references. It ends in the descriptor by these answers.
 pub fn descriptor_by_answers()
+    // What the query asks, in order and only as needed, and that it ends in the definition applied
+    // to what the answers say.
     ensures gives { (f : List ℕ) (es : Reads) (t : List ℕ) → Runs descriptor_advances (descriptor_starts f) es (Done t) → IsDescriptorBy f es t }
 {}
 
 /// The symbols of a file ask what it is read as, and end in the symbols of that.
 pub fn symbols_by_answers()
+    // What the query asks, in order and only as needed, and that it ends in the definition applied
+    // to what the answers say.
     ensures gives { (f : List ℕ) (es : Reads) (t : List ℕ) → Runs (λ (q : Unit {0}) (a : Answer KeyContents ValueContents). symbols_advances a) (symbols_starts f) es (Done t) → AreSymbolsBy f es t }
 {}
 
@@ -62,5 +71,7 @@ pub fn symbols_by_answers()
 /// its resolved references; and if a type is referred to at the place, what that type's file is read
 /// as. It ends in the location of the type's name by these answers.
 pub fn definition_by_answers()
+    // What the query asks, in order and only as needed, and that it ends in the definition applied
+    // to what the answers say.
     ensures gives { (f : List ℕ) (place : PlaceContents) (es : Reads) (d : Option LocationContents) → Runs definition_advances (definition_starts f place) es (Done d) → IsDefinitionBy f place es d }
 {}

@@ -14,6 +14,7 @@ use Rattle.pq_rules.specs.declared.sums.SumsValue.TheVariants.{Source, Number}
 use Rattle.pq_rules.specs.declared.sums.SumsPart.{SumsPart}
 use Rattle.pq_rules.specs.declared.sums.SumsPart.TheVariants.{Adding, Taking}
 use Rattle.pq_rules.specs.Turns.{Machine}
+use Rattle.pq_rules.specs.aux.Codes.{text_code}
 use Rattle.pq_rules.specs.sums.Names.{names_of}
 use Rattle.pq_rules.specs.sums.Queries.{sum_level, total_level, sum_starts, sum_advances, sum_left, total_starts, total_advances}
 
@@ -95,3 +96,9 @@ own_name (Total name) = name
 abbrev pub sums_reach : Sources → SumsKey → List SumsKey
 sums_reach files k =
     k ∷ (map (λ n. Input n) (own_name k ∷ all_names files) ++ map (λ n. Sum n) (own_name k ∷ all_names files))
+
+-- `sums_code key` is the code of the name in `key`
+abbrev pub sums_code : SumsKey → ℕ
+sums_code (Input name) = text_code name
+sums_code (Sum name) = text_code name
+sums_code (Total name) = text_code name

@@ -2,23 +2,19 @@
 -- only).
 use Rattle.std.specs.Prelude.{◌≡◌, ℕ, ◌+◌, get_or, length, List, [], ◌++◌}
 use Rattle.pq_rules.specs.Relations.{Each}
-use Rattle.pq_schema.specs.declared.asked.Answer.{Answer}
-use Rattle.pq_schema.specs.declared.asked.Asked.{Asked}
-use Rattle.pq_schema.specs.declared.scope.FileDefs.{FileDefs}
+use Rattle.pq_schema.specs.declared.search.asked.Answer.{Answer}
+use Rattle.pq_schema.specs.declared.search.asked.Asked.{Asked}
+use Rattle.pq_schema.specs.declared.scope.scope.FileDefs.{FileDefs}
 use Rattle.pq_schema.specs.Resolution.{meaning}
 use Rattle.pq_schema.specs.aux.Hits.{meaning_at}
 use Rattle.pq_schema.specs.aux.PackageRange.{IsRangeOf}
 
--- `IsRight files scope` is that the answers of `scope` are right in the files `files`, and that its
--- packages, if it has them, are those of these files
-abbrev pub IsRight : List FileDefs → Asked → Type 0
-IsRight files scope =
-    Each (λ (a : Answer). meaning_at a.place ≡ meaning files (scope.lead ++ a.name)) scope.answers.items
-    × IsRangeOf files scope.packages scope.lead
-
--- `IsAsked files lead scope` is that `scope` has `lead` before its names, and that its answers are right
+-- `IsAsked files lead scope` is that the answers of `scope` are right in the files `files` for names
+-- with `lead` before them, and that its packages, if it has them, are those of these files
 abbrev pub IsAsked : List FileDefs → List ℕ → Asked → Type 0
-IsAsked files lead scope = (scope.lead ≡ lead) × IsRight files scope
+IsAsked files lead scope =
+    Each (λ (a : Answer). meaning_at a.place ≡ meaning files (lead ++ a.name)) scope.answers.items
+    × IsRangeOf files scope.packages lead
 
 -- `AreAsked files leads asked` is that `asked` has as many scopes as `leads`, the outermost first, and
 -- that their answers are right. `leads` has what is before a name in each, the innermost first.
@@ -26,8 +22,3 @@ pub record AreAsked (files : List FileDefs) (leads : List (List ℕ)) (asked : L
   pub count : length asked ≡ length leads
   pub right : (level at : ℕ) (d : Asked) → level + (at + 1) ≡ length leads
       → IsAsked files (get_or leads at []) (get_or asked level d)
-
--- `IsFront all part` is that `all` begins with `part`
-pub record IsFront (all part : List Asked) : Type 0 where
-  pub rest : List Asked
-  pub is : all ≡ part ++ rest

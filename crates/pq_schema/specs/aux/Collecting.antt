@@ -7,7 +7,7 @@ use Rattle.pq_links.specs.declared.links.Links.{Links}
 use Rattle.pq_schema.specs.Contents.{Defs}
 use Rattle.pq_schema.specs.ScopeContents.{Scope}
 use Rattle.pq_schema.specs.Answers.{scope_by}
-use Rattle.pq_schema.specs.declared.scope.FileDefs.{FileDefs}
+use Rattle.pq_schema.specs.declared.scope.scope.FileDefs.{FileDefs}
 
 -- `Collecting` is the names of the visible files; the files of which the definitions are to be
 -- asked; and those before them, with their definitions

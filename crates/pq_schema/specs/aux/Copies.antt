@@ -6,9 +6,9 @@ use Rattle.pq_syntax.specs.declared.tree.Node.{Node}
 use Rattle.pq_syntax.specs.declared.tree.Statement.{Statement}
 use Rattle.pq_syntax.specs.Places.{places}
 use Rattle.pq_schema.specs.Definitions.{defined_at, defined_by, qualified, scope_of}
-use Rattle.pq_schema.specs.declared.copies.Numbered.{Numbered}
-use Rattle.pq_schema.specs.declared.copies.Numbering.{Numbering}
-use Rattle.pq_schema.specs.declared.definitions.Definition.{Definition}
+use Rattle.pq_schema.specs.declared.define.copies.Numbered.{Numbered}
+use Rattle.pq_schema.specs.declared.define.copies.Numbering.{Numbering}
+use Rattle.pq_schema.specs.declared.define.definitions.Definition.{Definition}
 
 -- `full_names ds` lists the full names of the definitions `ds`
 abbrev pub full_names : List Definition → List (List ℕ)

@@ -1,7 +1,7 @@
 -- Auxiliary: a number that is made of a list of definitions, by which lists are told apart.
 use Rattle.std.specs.Prelude.{ℕ, List, [], ◌∷◌}
 use Rattle.pq_schema.specs.aux.NameCodes.{coded, code_of}
-use Rattle.pq_schema.specs.declared.definitions.Definition.{Definition}
+use Rattle.pq_schema.specs.declared.define.definitions.Definition.{Definition}
 
 -- `digested n definition` is the number `n` with the name and the item of `definition` after it
 abbrev pub digested : ℕ → Definition → ℕ

@@ -9,10 +9,10 @@ use Rattle.pq_links.proofs.Equality.{parsed_file, file_items, file_imports, file
 use Rattle.pq_schema.specs.aux.SameContents.{contents}
 use Rattle.pq_schema.specs.aux.SameReferences.{references}
 use Rattle.pq_schema.specs.aux.SameScopes.{lists}
-use Rattle.pq_schema.specs.contracts.rules as rules
-use Rattle.pq_schema.specs.declared.rules.SchemaKey.{SchemaKey}
-use Rattle.pq_schema.specs.declared.rules.SchemaKey.TheVariants.{Input, Parse, Items, Imports, Linked, Defs, Scope, Resolved}
-use Rattle.pq_schema.specs.declared.rules.SchemaValue.{SchemaValue}
+use Rattle.pq_schema.specs.contracts.queries.rules as rules
+use Rattle.pq_schema.specs.declared.queries.rules.SchemaKey.{SchemaKey}
+use Rattle.pq_schema.specs.declared.queries.rules.SchemaKey.TheVariants.{Input, Parse, Items, Imports, Linked, Defs, Scope, Resolved}
+use Rattle.pq_schema.specs.declared.queries.rules.SchemaValue.{SchemaValue}
 
 value : Told rules.SchemaValuePartialEq.TheImpl.ghosts.eq
 value =

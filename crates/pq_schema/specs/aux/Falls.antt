@@ -8,11 +8,11 @@ use Rattle.pq_links.specs.declared.links.Links.{Links}
 use Rattle.pq_schema.specs.Contents.{Defs}
 use Rattle.pq_schema.specs.ScopeContents.{Scope}
 use Rattle.pq_schema.specs.aux.Queries.{defs_advances, collect_next, scope_advances, scope_left, resolved_advances, resolved_left}
-use Rattle.pq_schema.specs.declared.resolved.ResolvedPart.{ResolvedPart}
-use Rattle.pq_schema.specs.declared.resolved.ResolvedPart.TheVariants.{ReadScope, ReadTree}
-use Rattle.pq_schema.specs.declared.scope.FileDefs.{FileDefs}
-use Rattle.pq_schema.specs.declared.scopes.ScopePart.{ScopePart}
-use Rattle.pq_schema.specs.declared.scopes.ScopePart.TheVariants.{ReadLinks, Collect}
+use Rattle.pq_schema.specs.declared.queries.resolved.ResolvedPart.{ResolvedPart}
+use Rattle.pq_schema.specs.declared.queries.resolved.ResolvedPart.TheVariants.{ReadScope, ReadTree}
+use Rattle.pq_schema.specs.declared.scope.scope.FileDefs.{FileDefs}
+use Rattle.pq_schema.specs.declared.queries.scopes.ScopePart.{ScopePart}
+use Rattle.pq_schema.specs.declared.queries.scopes.ScopePart.TheVariants.{ReadLinks, Collect}
 
 pub defs_falls : {K : Type 0} (nodes : List Node) (q : K) (r : Unit {0}) → defs_advances nodes ≡ Ask q r → IsLower (0, 0) (0, 0)
 defs_falls nodes q r e = cc

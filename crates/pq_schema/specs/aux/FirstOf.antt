@@ -1,8 +1,8 @@
 -- Auxiliary: the first answer that a file gives (used by proofs and contracts of private functions
 -- only).
 use Rattle.std.specs.Prelude.{option_map, ℕ, bytes_eq, Bool, false, cond, not, ◌&&◌, filter, slice_get, List, [], ◌∷◌, Option, Some, None}
-use Rattle.pq_schema.specs.declared.scope.FileDefs.{FileDefs}
-use Rattle.pq_schema.specs.declared.definitions.Definition.{Definition}
+use Rattle.pq_schema.specs.declared.scope.scope.FileDefs.{FileDefs}
+use Rattle.pq_schema.specs.declared.define.definitions.Definition.{Definition}
 use Rattle.pq_schema.specs.Others.{defines}
 use Rattle.pq_schema.specs.aux.Grouping.{find_in}
 

@@ -4,12 +4,12 @@ use Rattle.pq_schema.specs.Resolution.{Found, Meaning, Lookup}
 use Rattle.pq_schema.specs.Resolution.Found.{FoundType, FoundOther, FoundNothing}
 use Rattle.pq_schema.specs.Resolution.Meaning.{Defined, Undefined}
 use Rattle.pq_schema.specs.Resolution.Lookup.{IsType, IsNotFound, IsNotVisible, IsNotAType}
-use Rattle.pq_schema.specs.declared.definitions.Definition.{Definition}
-use Rattle.pq_schema.specs.declared.named.Place.{Place}
-use Rattle.pq_schema.specs.declared.search.Hit.{Hit}
-use Rattle.pq_schema.specs.declared.search.Hit.TheVariants.{«Type» as TypeHit, Other as OtherHit, Nothing as NothingHit}
-use Rattle.pq_schema.specs.declared.search.Outcome.{Outcome}
-use Rattle.pq_schema.specs.declared.search.Outcome.TheVariants.{«Type» as TypeOutcome, NotFound as NotFoundOutcome, NotVisible as NotVisibleOutcome, NotAType as NotATypeOutcome}
+use Rattle.pq_schema.specs.declared.define.definitions.Definition.{Definition}
+use Rattle.pq_schema.specs.declared.scope.named.Place.{Place}
+use Rattle.pq_schema.specs.declared.search.search.Hit.{Hit}
+use Rattle.pq_schema.specs.declared.search.search.Hit.TheVariants.{«Type» as TypeHit, Other as OtherHit, Nothing as NothingHit}
+use Rattle.pq_schema.specs.declared.search.search.Outcome.{Outcome}
+use Rattle.pq_schema.specs.declared.search.search.Outcome.TheVariants.{«Type» as TypeOutcome, NotFound as NotFoundOutcome, NotVisible as NotVisibleOutcome, NotAType as NotATypeOutcome}
 
 -- `meaning_at place` is the meaning of a full name whose first definition is at `place`
 abbrev pub meaning_at : Option Place → Meaning

@@ -2,7 +2,7 @@
 -- dot after them.
 use Rattle.std.specs.Prelude.{◌≡◌, ℕ, ◌⊎◌, List, [], ◌++◌, codes}
 use Rattle.pq_rules.specs.Relations.{Each}
-use Rattle.pq_schema.specs.declared.definitions.Definition.{Definition}
+use Rattle.pq_schema.specs.declared.define.definitions.Definition.{Definition}
 
 -- `dotted name` is `name` with a dot after it
 abbrev pub dotted : List ℕ → List ℕ

@@ -5,11 +5,11 @@ use Rattle.pq_rules.specs.Relations.{Each}
 use Rattle.pq_links.specs.declared.places.TypePart.{TypePart}
 use Rattle.pq_syntax.specs.declared.tree.Statement.{Statement}
 use Rattle.pq_syntax.specs.declared.tree.Statement.TheVariants.{Message, Service}
-use Rattle.pq_schema.specs.declared.references.Reference.{Reference}
-use Rattle.pq_schema.specs.declared.resolved.ResolvedReference.{ResolvedReference}
-use Rattle.pq_schema.specs.declared.scope.FileDefs.{FileDefs}
-use Rattle.pq_schema.specs.declared.uses.Nearby.{Nearby}
-use Rattle.pq_schema.specs.declared.uses.Use.{Use}
+use Rattle.pq_schema.specs.declared.search.references.Reference.{Reference}
+use Rattle.pq_schema.specs.declared.queries.resolved.ResolvedReference.{ResolvedReference}
+use Rattle.pq_schema.specs.declared.scope.scope.FileDefs.{FileDefs}
+use Rattle.pq_schema.specs.declared.search.walk.Nearby.{Nearby}
+use Rattle.pq_schema.specs.declared.search.uses.Use.{Use}
 use Rattle.pq_schema.specs.Definitions.{qualified}
 use Rattle.pq_schema.specs.References.{references_by}
 use Rattle.pq_schema.specs.Resolution.{Found, decides, found, lookup_by, resolution_of, unless_type}

@@ -13,9 +13,9 @@ use Rattle.pq_schema.specs.Contents.{Defs}
 use Rattle.pq_schema.specs.ScopeContents.{Scope}
 use Rattle.pq_schema.specs.Answers.{picked, scope_by}
 use Rattle.pq_schema.specs.aux.Queries.{collect_next, scope_starts, scope_advances}
-use Rattle.pq_schema.specs.declared.scope.FileDefs.{FileDefs}
-use Rattle.pq_schema.specs.declared.scopes.ScopePart.{ScopePart}
-use Rattle.pq_schema.specs.declared.scopes.ScopePart.TheVariants.{ReadLinks, Collect}
+use Rattle.pq_schema.specs.declared.scope.scope.FileDefs.{FileDefs}
+use Rattle.pq_schema.specs.declared.queries.scopes.ScopePart.{ScopePart}
+use Rattle.pq_schema.specs.declared.queries.scopes.ScopePart.TheVariants.{ReadLinks, Collect}
 
 -- `FilesIn N fs` is that the names of the files `fs` are of the kind `N`
 abbrev pub FilesIn : (List ℕ → Type 0) → List FileDefs → Type 0

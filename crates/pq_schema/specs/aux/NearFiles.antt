@@ -1,7 +1,7 @@
 -- Auxiliary: those of the files near some names that are not one file (used by invariants and
 -- contracts of private functions only).
 use Rattle.std.specs.Prelude.{◌≡◌, ℕ, filter, List}
-use Rattle.pq_schema.specs.declared.scope.FileDefs.{FileDefs}
+use Rattle.pq_schema.specs.declared.scope.scope.FileDefs.{FileDefs}
 use Rattle.pq_schema.specs.aux.FirstOf.{is_other_at}
 use Rattle.pq_schema.specs.aux.Grouping.{AreNear}
 

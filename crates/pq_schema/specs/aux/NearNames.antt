@@ -6,7 +6,7 @@ use Rattle.std.specs.List.Sorted.{IsSorted}
 use Rattle.std.specs.declared.cmp.Ordering.{Ordering}
 use Rattle.std.specs.Ordering.{nat_cmp, ordering_then}
 use Rattle.pq_rules.specs.Relations.{Each, In}
-use Rattle.pq_schema.specs.declared.scope.FileDefs.{FileDefs}
+use Rattle.pq_schema.specs.declared.scope.scope.FileDefs.{FileDefs}
 use Rattle.pq_schema.specs.aux.FirstOf.{answer_at}
 use Rattle.pq_schema.specs.aux.Grouping.{AreNear, find_in}
 use Rattle.pq_schema.specs.aux.NameCodes.{code_of}

@@ -2,8 +2,8 @@
 -- packages (used by proofs and contracts of private functions only).
 use Rattle.std.specs.Prelude.{◌≡◌, ℕ, Bool, true, false, cond, length, nat_lt, List, [], ◌∷◌, ◌++◌, Option, Some, None}
 use Rattle.std.specs.Str.{IsUtf8}
-use Rattle.pq_schema.specs.declared.scope.FileDefs.{FileDefs}
-use Rattle.pq_schema.specs.declared.references.Reference.{Reference}
+use Rattle.pq_schema.specs.declared.scope.scope.FileDefs.{FileDefs}
+use Rattle.pq_schema.specs.declared.search.references.Reference.{Reference}
 use Rattle.pq_schema.specs.Definitions.{qualified}
 use Rattle.pq_schema.specs.Resolution.{Found, Meaning, found, found_by, has_names, meaning, scopes, search, unless_type}
 use Rattle.pq_schema.specs.Resolution.Found.{FoundOther, FoundNothing}

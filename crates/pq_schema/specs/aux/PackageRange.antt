@@ -6,8 +6,8 @@ use Rattle.std.specs.List.{list_any, starts_with}
 use Rattle.std.specs.List.Sorted.{IsSorted}
 use Rattle.std.specs.Ordering.{is_lt, nat_cmp}
 use Rattle.pq_rules.specs.Relations.{Each}
-use Rattle.pq_schema.specs.declared.package_range.PackageRange.{PackageRange}
-use Rattle.pq_schema.specs.declared.scope.FileDefs.{FileDefs}
+use Rattle.pq_schema.specs.declared.scope.package_range.PackageRange.{PackageRange}
+use Rattle.pq_schema.specs.declared.scope.scope.FileDefs.{FileDefs}
 use Rattle.pq_schema.specs.Resolution.{is_package}
 use Rattle.pq_schema.specs.aux.Fronts.{Begins}
 use Rattle.pq_schema.specs.aux.Grouping.{root_order}

@@ -11,12 +11,12 @@ use Rattle.pq_schema.specs.Compile.{resolved_in}
 use Rattle.pq_schema.specs.Answers.{scope_by}
 use Rattle.pq_schema.specs.Definitions.{defs_of}
 use Rattle.pq_schema.specs.References.{references_of}
-use Rattle.pq_schema.specs.declared.resolved.ResolvedReference.{ResolvedReference}
-use Rattle.pq_schema.specs.declared.resolved.ResolvedPart.{ResolvedPart}
-use Rattle.pq_schema.specs.declared.resolved.ResolvedPart.TheVariants.{ReadScope, ReadTree}
-use Rattle.pq_schema.specs.declared.scope.FileDefs.{FileDefs}
-use Rattle.pq_schema.specs.declared.scopes.ScopePart.{ScopePart}
-use Rattle.pq_schema.specs.declared.scopes.ScopePart.TheVariants.{ReadLinks, Collect}
+use Rattle.pq_schema.specs.declared.queries.resolved.ResolvedReference.{ResolvedReference}
+use Rattle.pq_schema.specs.declared.queries.resolved.ResolvedPart.{ResolvedPart}
+use Rattle.pq_schema.specs.declared.queries.resolved.ResolvedPart.TheVariants.{ReadScope, ReadTree}
+use Rattle.pq_schema.specs.declared.scope.scope.FileDefs.{FileDefs}
+use Rattle.pq_schema.specs.declared.queries.scopes.ScopePart.{ScopePart}
+use Rattle.pq_schema.specs.declared.queries.scopes.ScopePart.TheVariants.{ReadLinks, Collect}
 
 -- `defs_level`, `scope_level` and `resolved_level` are the levels of the queries' keys
 abbrev pub defs_level : ℕ

@@ -2,6 +2,7 @@
 -- what its keys mean.
 use Rattle.std.specs.Prelude.{ℕ, List, [], ◌∷◌, Option, Some, None}
 use Rattle.pq_inputs.specs.Sources.{Sources}
+use Rattle.pq_rules.specs.aux.Codes.{text_code}
 use Rattle.pq_rules.specs.declared.turn.Turn.{Turn}
 use Rattle.pq_rules.specs.declared.turn.Turn.TheVariants.{Done}
 use Rattle.pq_rules.specs.declared.turn.Answer.{Answer}
@@ -24,15 +25,15 @@ use Rattle.pq_schema.specs.Contents.{Defs as DefsContents}
 use Rattle.pq_schema.specs.ScopeContents.{Scope as ScopeContents}
 use Rattle.pq_schema.specs.Missing.{no_defs, no_scope}
 use Rattle.pq_schema.specs.aux.Queries.{defs_level, scope_level, resolved_level, defs_starts, defs_advances, scope_starts, scope_advances, scope_left, resolved_starts, resolved_advances, resolved_left}
-use Rattle.pq_schema.specs.declared.resolved.ResolvedReference.{ResolvedReference}
-use Rattle.pq_schema.specs.declared.resolved.ResolvedPart.{ResolvedPart}
-use Rattle.pq_schema.specs.declared.rules.SchemaKey.{SchemaKey}
-use Rattle.pq_schema.specs.declared.rules.SchemaKey.TheVariants.{Input, Parse, Items, Imports, Linked, Defs, Scope, Resolved}
-use Rattle.pq_schema.specs.declared.rules.SchemaPart.{SchemaPart}
-use Rattle.pq_schema.specs.declared.rules.SchemaPart.TheVariants.{Parsing, Itemizing, Importing, LinkingFiles, Defining, Scoping, Resolving}
-use Rattle.pq_schema.specs.declared.rules.SchemaValue.{SchemaValue}
-use Rattle.pq_schema.specs.declared.rules.SchemaValue.TheVariants as values
-use Rattle.pq_schema.specs.declared.scopes.ScopePart.{ScopePart}
+use Rattle.pq_schema.specs.declared.queries.resolved.ResolvedReference.{ResolvedReference}
+use Rattle.pq_schema.specs.declared.queries.resolved.ResolvedPart.{ResolvedPart}
+use Rattle.pq_schema.specs.declared.queries.rules.SchemaKey.{SchemaKey}
+use Rattle.pq_schema.specs.declared.queries.rules.SchemaKey.TheVariants.{Input, Parse, Items, Imports, Linked, Defs, Scope, Resolved}
+use Rattle.pq_schema.specs.declared.queries.rules.SchemaPart.{SchemaPart}
+use Rattle.pq_schema.specs.declared.queries.rules.SchemaPart.TheVariants.{Parsing, Itemizing, Importing, LinkingFiles, Defining, Scoping, Resolving}
+use Rattle.pq_schema.specs.declared.queries.rules.SchemaValue.{SchemaValue}
+use Rattle.pq_schema.specs.declared.queries.rules.SchemaValue.TheVariants as values
+use Rattle.pq_schema.specs.declared.queries.scopes.ScopePart.{ScopePart}
 
 -- `text_read`, `parsed_read`, `items_read`, `imports_read`, `links_read`, `defs_read` and
 -- `scope_read` are what is read of an answer
@@ -180,3 +181,14 @@ makers =
 -- the files that any file imports
 abbrev pub schema_reach : Sources → SchemaKey → List SchemaKey
 schema_reach files k = keys_by makers (own_name k ∷ all_mentioned files)
+
+-- `schema_code key` is the code of the file's name in `key`
+abbrev pub schema_code : SchemaKey → ℕ
+schema_code (Input file) = text_code file
+schema_code (Parse file) = text_code file
+schema_code (Items file) = text_code file
+schema_code (Imports file) = text_code file
+schema_code (Linked file) = text_code file
+schema_code (Defs file) = text_code file
+schema_code (Scope file) = text_code file
+schema_code (Resolved file) = text_code file

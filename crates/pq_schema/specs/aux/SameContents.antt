@@ -6,11 +6,11 @@ use Rattle.std.specs.Str.{bytes_eq}
 use Rattle.std.specs.Cmp.Lexicographic.{pointwise, pointwise_decides, bytes_decides}
 use Rattle.pq_syntax.proofs.Equality.{Told, fields, one_field, of_struct, of_bare}
 use Rattle.pq_schema.specs.Contents.{Defs}
-use Rattle.pq_schema.specs.contracts.definitions.DefinitionKind as kind_type
-use Rattle.pq_schema.specs.contracts.definitions.DefinitionKindPartialEq.TheImpl as of_kind
-use Rattle.pq_schema.specs.contracts.definitions.Definition as definition_type
-use Rattle.pq_schema.specs.contracts.definitions.DefinitionPartialEq.TheImpl as of_definition
-use Rattle.pq_schema.specs.declared.definitions.Definition.{Definition}
+use Rattle.pq_schema.specs.contracts.define.definitions.DefinitionKind as kind_type
+use Rattle.pq_schema.specs.contracts.define.definitions.DefinitionKindPartialEq.TheImpl as of_kind
+use Rattle.pq_schema.specs.contracts.define.definitions.Definition as definition_type
+use Rattle.pq_schema.specs.contracts.define.definitions.DefinitionPartialEq.TheImpl as of_definition
+use Rattle.pq_schema.specs.declared.define.definitions.Definition.{Definition}
 
 -- `same_contents a b` is whether `a` and `b` have the same package and equal definitions
 abbrev pub same_contents : Defs → Defs → Bool

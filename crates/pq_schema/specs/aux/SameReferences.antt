@@ -5,13 +5,13 @@ use Rattle.std.specs.Cmp.{IsEquivalence, IsPartialEquivalence, decided, partial_
 use Rattle.std.specs.Cmp.Lexicographic.{pointwise, pointwise_decides, bytes_decides}
 use Rattle.pq_syntax.proofs.Equality.{Told, no_field, one_field, fields, of_struct, no_variant, variants, of_enum}
 use Rattle.pq_links.proofs.Equality.{type_part}
-use Rattle.pq_schema.specs.contracts.resolution.Resolution as resolution_type
-use Rattle.pq_schema.specs.contracts.resolution.ResolutionPartialEq.TheImpl as of_resolution
-use Rattle.pq_schema.specs.contracts.resolution.Target as target_type
-use Rattle.pq_schema.specs.contracts.resolution.TargetPartialEq.TheImpl as of_target
-use Rattle.pq_schema.specs.contracts.resolved.ResolvedReference as reference_type
-use Rattle.pq_schema.specs.contracts.resolved.ResolvedReferencePartialEq.TheImpl as of_reference
-use Rattle.pq_schema.specs.declared.resolved.ResolvedReference.{ResolvedReference}
+use Rattle.pq_schema.specs.contracts.search.resolution.Resolution as resolution_type
+use Rattle.pq_schema.specs.contracts.search.resolution.ResolutionPartialEq.TheImpl as of_resolution
+use Rattle.pq_schema.specs.contracts.search.resolution.Target as target_type
+use Rattle.pq_schema.specs.contracts.search.resolution.TargetPartialEq.TheImpl as of_target
+use Rattle.pq_schema.specs.contracts.queries.resolved.ResolvedReference as reference_type
+use Rattle.pq_schema.specs.contracts.queries.resolved.ResolvedReferencePartialEq.TheImpl as of_reference
+use Rattle.pq_schema.specs.declared.queries.resolved.ResolvedReference.{ResolvedReference}
 
 one_target : Told of_target.ghosts.eq
 one_target =

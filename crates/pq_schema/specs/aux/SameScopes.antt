@@ -5,9 +5,9 @@ use Rattle.std.specs.Cmp.{IsPartialEquivalence, IsEquivalence, decided, partial_
 use Rattle.std.specs.Cmp.Lexicographic.{pointwise, pointwise_decides, bytes_decides}
 use Rattle.pq_syntax.proofs.Equality.{Told, fields, one_field, of_struct}
 use Rattle.pq_schema.specs.ScopeContents.{Scope}
-use Rattle.pq_schema.specs.declared.scope.FileDefs.{FileDefs}
-use Rattle.pq_schema.specs.contracts.scope.FileDefs as file_type
-use Rattle.pq_schema.specs.contracts.scope.FileDefsPartialEq.TheImpl as of_file
+use Rattle.pq_schema.specs.declared.scope.scope.FileDefs.{FileDefs}
+use Rattle.pq_schema.specs.contracts.scope.scope.FileDefs as file_type
+use Rattle.pq_schema.specs.contracts.scope.scope.FileDefsPartialEq.TheImpl as of_file
 use Rattle.pq_schema.specs.aux.SameContents.{contents}
 
 -- `same_files a b` is whether the lists `a` and `b` have equal files

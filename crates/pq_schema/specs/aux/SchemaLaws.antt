@@ -25,14 +25,14 @@ use Rattle.pq_schema.specs.aux.Queries.{scope_starts, scope_advances, scope_left
 use Rattle.pq_schema.specs.aux.Falls.{scope_falls, resolved_falls}
 use Rattle.pq_schema.specs.aux.NameKinds.{ScopeIn, ScopePartIn, scope_starts_in, scope_advances_in}
 use Rattle.pq_schema.specs.aux.RuleSet.{text_read, parsed_read, items_read, imports_read, links_read, defs_read, scope_read, schema_level, schema_file, schema_start, schema_advance, schema_left, schema_rules, own_name, makers, schema_reach}
-use Rattle.pq_schema.specs.declared.resolved.ResolvedPart.{ResolvedPart}
-use Rattle.pq_schema.specs.declared.resolved.ResolvedPart.TheVariants.{ReadScope, ReadTree}
-use Rattle.pq_schema.specs.declared.rules.SchemaKey.{SchemaKey}
-use Rattle.pq_schema.specs.declared.rules.SchemaKey.TheVariants.{Input, Parse, Items, Imports, Linked, Defs, Scope, Resolved}
-use Rattle.pq_schema.specs.declared.rules.SchemaPart.{SchemaPart}
-use Rattle.pq_schema.specs.declared.rules.SchemaPart.TheVariants.{Parsing, Itemizing, Importing, LinkingFiles, Defining, Scoping, Resolving}
-use Rattle.pq_schema.specs.declared.rules.SchemaValue.{SchemaValue}
-use Rattle.pq_schema.specs.declared.rules.SchemaValue.TheVariants as values
+use Rattle.pq_schema.specs.declared.queries.resolved.ResolvedPart.{ResolvedPart}
+use Rattle.pq_schema.specs.declared.queries.resolved.ResolvedPart.TheVariants.{ReadScope, ReadTree}
+use Rattle.pq_schema.specs.declared.queries.rules.SchemaKey.{SchemaKey}
+use Rattle.pq_schema.specs.declared.queries.rules.SchemaKey.TheVariants.{Input, Parse, Items, Imports, Linked, Defs, Scope, Resolved}
+use Rattle.pq_schema.specs.declared.queries.rules.SchemaPart.{SchemaPart}
+use Rattle.pq_schema.specs.declared.queries.rules.SchemaPart.TheVariants.{Parsing, Itemizing, Importing, LinkingFiles, Defining, Scoping, Resolving}
+use Rattle.pq_schema.specs.declared.queries.rules.SchemaValue.{SchemaValue}
+use Rattle.pq_schema.specs.declared.queries.rules.SchemaValue.TheVariants as values
 
 pub schema_inputs : (k : SchemaKey) → (schema_level k ≡ 0) ↔ IsSome (schema_file k)
 schema_inputs (Input f) = (λ e. refl, λ e. refl)

@@ -2,8 +2,8 @@
 -- contracts of private functions only).
 use Rattle.std.specs.Prelude.{◌≡◌, ◌≢◌, ℕ, ◌<◌, Bool, true, false, get_or, length, filter, map, List}
 use Rattle.pq_rules.specs.Relations.{Each}
-use Rattle.pq_schema.specs.declared.scope.FileDefs.{FileDefs}
-use Rattle.pq_schema.specs.declared.definitions.Definition.{Definition}
+use Rattle.pq_schema.specs.declared.scope.scope.FileDefs.{FileDefs}
+use Rattle.pq_schema.specs.declared.define.definitions.Definition.{Definition}
 use Rattle.pq_schema.specs.Definitions.{qualified}
 use Rattle.pq_schema.specs.Resolution.{meaning, scopes}
 use Rattle.pq_schema.specs.Resolution.Meaning.{Undefined}

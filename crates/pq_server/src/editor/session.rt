@@ -171,7 +171,8 @@ where
 }
 
 /// Opens both clients, and runs the threads of the session: it reads on this thread, and writes replies
-/// and pushes on two others of `scope`. Both clients are closed when it returns.
+/// and pushes on two others of `scope`. Both clients are closed when it returns, but where an allocation
+/// failed before the threads were started: then the end of the hall ends them.
 fn run_in<'s, E, F, R, I, W>(
     scope: &Scope<'s, E>,
     rt: &'s R,

@@ -52,8 +52,12 @@ fn set_file(inputs: &mut Inputs, file: LibraryFile) -> Result<(), InputFault>
 /// `Memory` says that an allocation failed. Any other fault is the refusal of the first file that
 /// the limits of the inputs refuse.
 pub fn filled(alloc: Global, files: Vec<LibraryFile>) -> Result<Inputs, InputFault>
+    // `files`, `revision`: The inputs have the files of the list, set in order with High
+    // durability, and no other change.
     ensures files { IfOk result (λ inputs. inputs.files ≡ with_library [] files.items) }
     ensures revision { IfOk result (λ inputs. inputs.revision ≡ length files.items) }
+    // `Memory`, or the limits of the inputs refuse one file of the list after those before it were
+    // set.
     ensures refused { IfErr result (λ fault. (fault ≡ Memory) ⊎ IsRefused files.items fault) }
 {
     let Ok(mut inputs) = Inputs::new(alloc) else {

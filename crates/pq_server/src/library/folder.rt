@@ -20,6 +20,8 @@ pub fn library_of<R: Files + Eprint + AllocGlobal>(
     base: &str,
     names: Vec<String>,
 ) -> Result<Inputs, LibraryFault>
+    // The inputs have a file of some text for each of the names that were listed, and no other;
+    // they were set in byte order of the names.
     ensures { IfOk result (λ inputs. IsLibraryOf (map string_bytes names.items) inputs) }
 {
     let ordered = in_order(names)?;
@@ -41,7 +43,8 @@ pub fn read_library<R: Files + Eprint + AllocGlobal + Clone + Drop>(
     rt: &R,
     dir: &str,
 ) -> Result<Inputs, LibraryFault>
-    // What the file system delivers is not known: they are the files of some names.
+    // The inputs are those of some names, as `library_of` says. Which names the file system
+    // delivers is not known.
     ensures { IfOk result (λ inputs. IsLibrary inputs) }
 {
     let base = base_of(rt.alloc(), dir)?;

@@ -30,13 +30,12 @@ pub fn run_library_script<R: Read, W: Write, E: Write>(
     requires reader_left { failed_of reader.old < 2 ^ 63 }
     requires writer_left { failed_of writer.old < 2 ^ 63 }
     requires errors_left { failed_of errors.old < 2 ^ 63 }
-    // No library was read: the client is not served, and the status and the line are the error's.
+    // No library was read: the reader and the writer are as they were, and the status and the line
+    // are those of the error.
     ensures refused { IfErr library (λ fault. (result ≡ start_status fault)
         × (reader.new ≡ reader.old) × (writer.new ≡ writer.old)
         × (failed_of errors.new ≡ failed_of errors.old → Appends (E.contents (inner_of errors.old)) (E.contents (inner_of errors.new)) (start_line fault))) }
-    // A library was read: the script theorem over its files, with the clauses on failed calls, for
-    // an outcome whose status is the result. The line of that outcome was written, unless a write of
-    // it failed.
+    // What `run_script` says, over the sources and the revision of a library that was read.
     ensures serves { IfOk library (λ inputs. (bytes : List ℕ) × (out : List ℕ) × (outcome : Result ℕ ScriptFault)
         × Scripts (started inputs.files inputs.revision) (IsAtEnd (R.remaining (inner_of reader.new))) (reads_of reader.new ≡ reads_of reader.old + 4294967296) bytes out outcome
         × Consumes (R.remaining (inner_of reader.old)) (R.remaining (inner_of reader.new)) bytes

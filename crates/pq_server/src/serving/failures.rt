@@ -69,6 +69,8 @@ fn cause_of_code(code: i32) -> Cause
 /// The cause of a failed accept, by the kind of its error and the system's number of it, if there is
 /// one.
 pub(crate) fn cause_of(kind: ErrorKind, code: Option<i32>) -> Cause
+    // The cause of a failed accept is that of the table of `Accepts`, by the kind of the error and
+    // the system's number of it.
     ensures { result ≡ cause_of kind code }
 {
     match kind {
@@ -85,6 +87,8 @@ pub(crate) fn cause_of(kind: ErrorKind, code: Option<i32>) -> Cause
 /// What the listener does after a failure of this cause. `running` sessions run. The accept has
 /// failed `failures` times in a row, with this one, while none ran.
 pub(crate) fn after_failure(cause: Cause, running: u32, failures: u32) -> Verdict
+    // What the listener does after a failed accept is what the table of `Accepts` says, by the
+    // cause, the sessions that run, and the failures in a row.
     ensures { result ≡ verdict_on cause running failures }
 {
     match cause {

@@ -6,9 +6,12 @@ ghost use Rattle.std.specs.Prelude.{◌≡◌, Ok, IfOk, OnErr, string_bytes};
 ghost use Rattle.pq_session.specs.Labels.{label_model};
 ghost use Rattle.pq_session.specs.Reply.{out_of_memory_text};
 
+use crossbeam_channel::Receiver;
 use pq_core::{Label, OpenFault, Reply, Stamp};
 use pq_hall::{BoardName, Client, ClientEnds, Gate, Hall, HallFault, Mark, Moved, OneValue};
-use pq_mail::{MailEnd, PorterEnd, Post, PostEnd, PostFault, Receipt, TakeEnd};
+use pq_mail::{
+    CAPACITY, MailEnd, PorterEnd, Post, PostEnd, PostFault, Receipt, RightReply, TakeEnd,
+};
 use pq_proto::{ProtoKey, ProtoRules, ProtoValue};
 use pq_rules::Rules;
 use pq_session::{
@@ -24,6 +27,8 @@ pub(crate) fn text_or_refusal(
     text: Result<String, AllocError>,
     label: &Label,
 ) -> Result<String, AllocError>
+    // `made`, `refused`: The text of a reply, or the error -32603 with the label of its request if
+    // there is none.
     ensures made { IfOk text (λ made. result ≡ Ok made) }
     ensures refused { OnErr text (IfOk result (λ said. string_bytes said ≡ out_of_memory_text (label_model label.now))) }
 {
@@ -33,7 +38,19 @@ pub(crate) fn text_or_refusal(
     }
 }
 
-/// Why a receipt has no text.
+/// After so many replies that were taken one by one a writer calls `refill`: the replies that an outbox
+/// holds.
+pub(crate) const TAKES: usize = CAPACITY;
+
+/// What the writer of a session owes its client: the reply of a receipt.
+#[derive(Drop)]
+pub(crate) struct Owed<Q> {
+    pub(crate) receipt: Q,
+    /// The root of the session when the request came.
+    pub(crate) root: Root,
+}
+
+/// Why a receipt or a reply has no text.
 #[derive(Clone, Copy, Debug, PartialEq, Eq)]
 pub(crate) enum NoText {
     /// The client was closed, and no reply comes.
@@ -160,6 +177,17 @@ pub(crate) trait Posting<H> {
         end: &mut Self::Post,
         post: Post<ProtoKey>,
     ) -> Result<Option<Self::Receipt>, PostFault>;
+
+    /// Posts `post` as `post` does, but wakes nobody, unless it waits for room. `wake` is called after it.
+    fn post_quietly(
+        &self,
+        rt: &H,
+        end: &mut Self::Post,
+        post: Post<ProtoKey>,
+    ) -> Result<Option<Self::Receipt>, PostFault>;
+
+    /// Wakes who carries the posts of `end`, if that thread waits.
+    fn wake(&self, end: &Self::Post);
 }
 
 /// A hall as a server sees it, whatever its rules are and whatever names its marks.
@@ -184,17 +212,38 @@ pub(crate) trait Floor<H>: Posting<H, Post: Send, Receipt: Send> + Sync {
         porter: &mut Self::Porter,
     ) -> Result<Carried, HallFault>;
 
-    /// The text of the reply of `receipt`, for a session with the root `root`. If an allocation fails
-    /// for it, it is the text that says so.
-    fn text(
+    /// Waits until each reply to `client` was put, and closes it. So a writer that takes them finds an
+    /// end after the last. It waits no longer once the client is closed or the hall is shut.
+    fn finish(&self, rt: &H, client: Client);
+
+    /// The text of the next reply, whose receipt `owed` gives next. It waits for the reply, and then for
+    /// the receipt. If an allocation fails for it, it is the text that says so. `None` if no reply is
+    /// left and the client was closed. The writer calls `refill` after each `TAKES` texts.
+    fn next_text(
         &self,
         rt: &H,
         alloc: Global,
-        client: Client,
         take: &mut Self::Take,
-        receipt: &Self::Receipt,
-        root: &Root,
-    ) -> Result<String, NoText>;
+        owed: &Receiver<Owed<Self::Receipt>>,
+    ) -> Result<Option<String>, NoText>;
+
+    /// The text of the next reply, as `next_text` gives it, if the reply is there. `None` if it is not.
+    fn ready_text(
+        &self,
+        rt: &H,
+        alloc: Global,
+        take: &mut Self::Take,
+        owed: &Receiver<Owed<Self::Receipt>>,
+    ) -> Result<Option<String>, NoText>;
+
+    /// Puts those replies to `client` that have room. It waits for nobody.
+    ///
+    /// A writer that calls it after each 32nd take waits only where no reply that is next is left in the
+    /// lane. Who fills a reply in puts what is next under the same hold of the lane's lock, up to a put
+    /// that is refused: at one moment of it 32 replies are in the outbox. The writer takes these before it
+    /// finds the outbox empty, and refills after one of them. That hold of the lock is after the one with
+    /// the refused put, and its last put may be refused again: then the same holds of it.
+    fn refill(&self, rt: &H, client: Client);
 
     /// The text of the reply of `receipt` for an editor. The URI of a definition is below the root
     /// that `places` has for its file. If an allocation fails for the text, it is the text that says
@@ -271,6 +320,22 @@ where
             Err(refused) => Err(refused.fault),
         }
     }
+
+    fn post_quietly(
+        &self,
+        rt: &H,
+        end: &mut PostEnd<S>,
+        post: Post<ProtoKey>,
+    ) -> Result<Option<Receipt<S::Key>>, PostFault> {
+        match end.post_quietly(rt, S::post_of(post)) {
+            Ok(receipt) => Ok(asked(receipt)),
+            Err(refused) => Err(refused.fault),
+        }
+    }
+
+    fn wake(&self, end: &PostEnd<S>) {
+        end.wake();
+    }
 }
 
 impl<S, J, H> Floor<H> for Hall<S, J, H>
@@ -315,19 +380,38 @@ where
         Ok(outcome_of(moved))
     }
 
-    fn text(
+    fn finish(&self, rt: &H, client: Client) {
+        self.finish(rt, client);
+    }
+
+    fn next_text(
         &self,
         rt: &H,
         alloc: Global,
-        client: Client,
         take: &mut TakeEnd<S, Mark<J>>,
-        receipt: &Receipt<S::Key>,
-        root: &Root,
-    ) -> Result<String, NoText> {
-        let taken = self.take_one(rt, client, take, receipt)?;
-        let reply = taken.reply();
-        let text = S::text_of(alloc, root, reply);
-        Ok(text_or_refusal(alloc, text, &reply.request().label)?)
+        owed: &Receiver<Owed<Receipt<S::Key>>>,
+    ) -> Result<Option<String>, NoText> {
+        match take.any(rt) {
+            Some(reply) => text_of(rt, alloc, take, &reply, owed),
+            None => Ok(None),
+        }
+    }
+
+    fn ready_text(
+        &self,
+        rt: &H,
+        alloc: Global,
+        take: &mut TakeEnd<S, Mark<J>>,
+        owed: &Receiver<Owed<Receipt<S::Key>>>,
+    ) -> Result<Option<String>, NoText> {
+        match take.try_any(rt) {
+            Some(reply) => text_of(rt, alloc, take, &reply, owed),
+            None => Ok(None),
+        }
+    }
+
+    fn refill(&self, rt: &H, client: Client) {
+        self.refill(rt, client);
     }
 
     fn editor_text<P: Places>(
@@ -365,6 +449,25 @@ where
     fn shut(&self, rt: &H) {
         self.shut(rt);
     }
+}
+
+/// The text of `reply`, which was taken from `take`, whose receipt `owed` gives next.
+fn text_of<S: Texts, M: Stamp, H: Wait>(
+    rt: &H,
+    alloc: Global,
+    take: &TakeEnd<S, M>,
+    reply: &RightReply<S, M>,
+    owed: &Receiver<Owed<Receipt<S::Key>>>,
+) -> Result<Option<String>, NoText> {
+    let Ok(next) = owed.recv(rt) else {
+        return Err(NoText::Closed);
+    };
+    if !take.is_of(&next.receipt, reply) {
+        return Err(NoText::Closed);
+    }
+    let reply = reply.reply();
+    let text = S::text_of(alloc, &next.root, reply);
+    Ok(Some(text_or_refusal(alloc, text, &reply.request().label)?))
 }
 
 /// What `moved` says of a post.

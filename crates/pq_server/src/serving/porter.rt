@@ -1,4 +1,9 @@
 //! The porter of a session: it carries the posts of the client into the hall.
+//!
+//! It waits for a post, and for room in the window of the client, which each put of a reply gives. After
+//! the last post it waits until each reply was put. The writer takes replies meanwhile, and those that
+//! had no room are put (`Floor::refill`). Where another thread closes the client, or the hall is shut,
+//! the porter waits no longer, but for a post.
 use crate::serving::floor::{Carried, Floor};
 use pq_core::EditFault;
 use pq_hall::{Client, HallFault};
@@ -6,7 +11,8 @@ use pq_session::ScriptFault;
 use std::net::{Shutdown, TcpStream};
 use std::sync::Wait;
 
-/// Carries the posts of `client` until there are no more.
+/// Carries the posts of `client` until there are no more. The client is closed once each reply was put,
+/// so that the writer ends.
 ///
 /// A post that is refused for good ends it. The client is closed then, and the stream is shut down,
 /// so that the reader ends too. The error says why, unless another thread had closed the client.
@@ -20,7 +26,10 @@ pub(crate) fn carry_all<F: Floor<H>, H: Wait>(
     let mut porter = porter;
     for _ in rt.forever() {
         match floor.carry(rt, client, &mut porter) {
-            Ok(Carried::Ended) => return Ok(()),
+            Ok(Carried::Ended) => {
+                floor.finish(rt, client);
+                return Ok(());
+            }
             Ok(_) => {}
             Err(fault) => {
                 let _ = stream.shutdown(Shutdown::Both);

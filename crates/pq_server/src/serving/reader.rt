@@ -1,7 +1,18 @@
 //! The reader of a session: it posts what the messages of the client say.
-use crate::serving::floor::Posting;
+//!
+//! A post wakes nobody, so that the porter is woken once for all posts of a piece. It is woken:
+//!
+//! - after the messages of a piece, when their receipts were handed on, also after an error;
+//! - before the reader waits for room for a receipt;
+//! - by the post itself where that waits for room in the inbox;
+//! - by the drop of the end that posts.
+//!
+//! So the reader waits, for input or for a thread, only where the porter was woken after the last post.
+//! The receipt of a request follows its post at once. The reader waits between the two only while
+//! receipts are there for the writer to take, so a writer that waits for a receipt gets it.
+use crate::serving::floor::{Owed, Posting};
 use crate::serving::roots::RootCheck;
-use crossbeam_channel::Sender;
+use crossbeam_channel::{Sender, TrySendError};
 use log::Log;
 use pq_frame::{FrameReader, Message};
 use pq_mail::{Post, PostFault};
@@ -20,14 +31,6 @@ enum Step {
     Finish(u8),
     /// Another thread has ended the session.
     Overtaken,
-}
-
-/// What the writer of a session owes its client: the reply of a receipt.
-#[derive(Drop)]
-pub(crate) struct Owed<Q> {
-    pub(crate) receipt: Q,
-    /// The root of the session when the request came.
-    pub(crate) root: Root,
 }
 
 /// What the reader of a session holds: the end that posts, of the type `P`, the way of receipts, of
@@ -55,7 +58,8 @@ impl<'a, P: Drop, Q: Drop> Intake<'a, P, Q> {
         }
     }
 
-    /// Posts `post`. A receipt of a request goes to the writer.
+    /// Posts `post`, and wakes nobody for it. A receipt of a request goes to the writer. The root is
+    /// copied before, so that no allocation fails between the post and its receipt.
     fn hand_in<F, H>(
         &mut self,
         rt: &H,
@@ -67,19 +71,29 @@ impl<'a, P: Drop, Q: Drop> Intake<'a, P, Q> {
         F: Posting<H, Post = P, Receipt = Q>,
         H: Wait,
     {
-        match floor.post(rt, &mut self.post, post) {
-            Ok(Some(receipt)) => self.hand_on(rt, alloc, receipt),
+        let root = root_of(alloc, &self.session)?;
+        match floor.post_quietly(rt, &mut self.post, post) {
+            Ok(Some(receipt)) => Ok(self.hand_on(rt, floor, Owed { receipt, root })),
             Ok(None) => Ok(Step::GoesOn),
             Err(fault) => ended_by(fault),
         }
     }
 
-    /// Hands `receipt` to the writer.
-    fn hand_on<H: Wait>(&self, rt: &H, alloc: Global, receipt: Q) -> Result<Step, ScriptFault> {
-        let root = root_of(alloc, &self.session)?;
-        match self.receipts.send(rt, Owed { receipt, root }) {
-            Ok(()) => Ok(Step::GoesOn),
-            Err(_) => Ok(Step::Overtaken),
+    /// Hands `owed` to the writer. Before it waits for room it wakes the porter.
+    fn hand_on<F, H>(&self, rt: &H, floor: &F, owed: Owed<Q>) -> Step
+    where
+        F: Posting<H, Post = P, Receipt = Q>,
+        H: Wait,
+    {
+        let owed = match self.receipts.try_send(rt, owed) {
+            Ok(()) => return Step::GoesOn,
+            Err(TrySendError::Full(owed)) => owed,
+            Err(_) => return Step::Overtaken,
+        };
+        floor.wake(&self.post);
+        match self.receipts.send(rt, owed) {
+            Ok(()) => Step::GoesOn,
+            Err(_) => Step::Overtaken,
         }
     }
 
@@ -110,7 +124,7 @@ impl<'a, P: Drop, Q: Drop> Intake<'a, P, Q> {
 
     /// Does what the messages of `bodies` ask for, up to the first after which the session does not
     /// go on.
-    fn handle_all<F, H>(
+    fn handle_each<F, H>(
         &mut self,
         rt: &H,
         alloc: Global,
@@ -128,6 +142,24 @@ impl<'a, P: Drop, Q: Drop> Intake<'a, P, Q> {
             }
         }
         Ok(Step::GoesOn)
+    }
+
+    /// Does what the messages of `bodies` ask for, as `handle_each` does. Then it wakes the porter, also
+    /// after an error.
+    fn handle_all<F, H>(
+        &mut self,
+        rt: &H,
+        alloc: Global,
+        floor: &F,
+        bodies: &[Vec<u8>],
+    ) -> Result<Step, ScriptFault>
+    where
+        F: Posting<H, Post = P, Receipt = Q>,
+        H: Wait + Log,
+    {
+        let handled = self.handle_each(rt, alloc, floor, bodies);
+        floor.wake(&self.post);
+        handled
     }
 
     /// Does what the messages ask for that `piece` completes.

@@ -1,4 +1,12 @@
-//! A session: one client on one connection, served by three threads.
+//! A session: one client on one connection, served by three threads. Each of them ends the others:
+//!
+//! - The reader drops its end that posts. The porter carries what is left, waits until each reply was
+//!   put, and closes the client. The writer takes what was put, and finds the end.
+//! - After a refusal the porter has closed the client, and shuts the stream down. The writer takes what
+//!   was put, finds the end, and drops the receipts. The reader finds the end of its input; where it
+//!   waits for room, its post comes back, since the porter's end is gone, or its receipt is refused.
+//! - After an error the writer closes the client, shuts the stream down and drops the receipts. The
+//!   reader ends as above. The porter's next post is refused, or it finds that there is none.
 //!
 //! After its end it lingers: it ends the output, and takes in what its client still sends, for two
 //! seconds at most. `sessions` bounds how many do.
@@ -83,7 +91,9 @@ where
                 outcome_of(carried, written, read)
             }
             _ => {
+                // A writer without a porter would wait for a reply.
                 drop(intake);
+                floor.close(rt, client);
                 Err(ScriptFault::Memory)
             }
         }

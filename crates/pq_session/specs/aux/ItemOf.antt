@@ -1,6 +1,6 @@
 -- Auxiliary (used by private clauses only): what a function that makes an item promises of it.
 use Rattle.std.specs.Prelude.{◌≡◌, Option}
-use Rattle.pq_core.specs.declared.label.Label.{Label}
+use Rattle.pq_core.specs.declared.values.label.Label.{Label}
 use Rattle.pq_proto.specs.declared.key.ProtoKey.{ProtoKey}
 use Rattle.pq_session.specs.declared.state.items.Item.{Item}
 use Rattle.pq_session.specs.Session.{Meaning}

@@ -3,8 +3,8 @@ ghost use Rattle.std.specs.Prelude.{◌≡◌, ◌⊎◌, None, Some, option_map
 ghost use Rattle.std.specs.Option.{option_copied};
 ghost use Rattle.pq_core.specs.Bodies.{body_view};
 ghost use Rattle.pq_core.specs.Changes.{text_after as after, set};
-ghost use Rattle.pq_core.specs.declared.label.Label.TheVariants as labels;
-ghost use Rattle.pq_core.specs.declared.request.Want.TheVariants.{Demand};
+ghost use Rattle.pq_core.specs.declared.values.label.Label.TheVariants as labels;
+ghost use Rattle.pq_core.specs.declared.values.request.Want.TheVariants.{Demand};
 ghost use Rattle.pq_proto.specs.Keys.{own_name};
 ghost use Rattle.pq_proto.specs.declared.key.ProtoKey.TheVariants as keys;
 ghost use Rattle.pq_session.specs.Editor.{with_file as about, asked_file as file_asked, renamed as want_renamed};
@@ -27,6 +27,8 @@ pub fn text_after(
     before: Option<&str>,
     body: Body,
 ) -> Result<Option<String>, ScriptFault>
+    // `ok`, `err`: The text that a body makes of a text. `BadRange` is answered only where it makes
+    // none, and any other error is `Memory`.
     ensures ok { IfOk result (λ text. after (option_copied before.entry) (body_view body) ≡ Some (option_map string_bytes text)) }
     ensures err { IfErr result (λ fault.
         ((fault ≡ ScriptFault.BadRange) × (after (option_copied before.entry) (body_view body) ≡ None))
@@ -50,6 +52,7 @@ pub fn change_to(
     text: Option<String>,
     durability: Durability,
 ) -> Result<Change, AllocError>
+    // A change of a file.
     ensures { IfOk result (λ change. change
         ≡ record { file = name.now; body = set (option_map string_bytes text); durability = durability }) }
 {
@@ -64,6 +67,7 @@ pub fn change_to(
 ///
 /// Only `Memory` is an error, after an allocation failure.
 pub fn diagnostics_of(alloc: Global, name: &str) -> Result<Request<ProtoKey>, AllocError>
+    // A request for the diagnostics of a file.
     ensures { IfOk result (λ request. request
         ≡ record { label = labels.None; want = Demand (keys.Diagnostics name.now) }) }
 {
@@ -97,6 +101,7 @@ fn file_of(key: &ProtoKey) -> &Text
 
 /// The name of the file that `request` asks about. A request with a fixed text asks about no file.
 pub fn asked_file(request: &Request<ProtoKey>) -> Option<&str>
+    // The file that a request asks about.
     ensures { option_map (λ name. name.now) result ≡ file_asked request.now.want }
 {
     match &request.want {
@@ -144,6 +149,7 @@ pub fn renamed(
     request: Request<ProtoKey>,
     name: &str,
 ) -> Result<Request<ProtoKey>, AllocError>
+    // The request of the same label that asks the same about another file.
     ensures { IfOk result (λ made. made
         ≡ record { label = request.label; want = want_renamed request.want name.now }) }
 {

@@ -28,6 +28,7 @@ impl Model for LastSent {
 impl LastSent {
     /// What was sent for a document before its first list: nothing.
     pub fn new() -> LastSent
+        // The revision is 0, and no text was sent.
         ensures { result ≡ record { revision = 0; text = None } }
     {
         LastSent {
@@ -38,6 +39,7 @@ impl LastSent {
 
     /// The text that was sent last, `""` before the first.
     pub fn text(&self) -> &str
+        // The text that was sent last; empty before the first.
         ensures { result.now ≡ unwrap_or self.now.text [] }
     {
         match &self.text {
@@ -62,6 +64,8 @@ impl LastSent {
     /// An older list changes nothing. After another one its revision is the last, and its text the one
     /// that was sent last.
     pub fn replace(&mut self, list: DiagnosticList) -> bool
+        // `news`, `after`: A list is to be sent exactly if it is of no older revision than the last
+        // one taken and its text is not the one sent last; an older list changes nothing.
         ensures news { result ≡ is_news self.old list }
         ensures after { self.new ≡ after self.old list }
     {

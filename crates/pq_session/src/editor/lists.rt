@@ -33,6 +33,7 @@ impl Model for DiagnosticList {
 impl DiagnosticList {
     /// The number of the revision of the sources at which the diagnostics hold.
     pub fn revision(&self) -> u64
+        // The revision at which the list holds.
         ensures { result ≡ self.now.revision }
     {
         self.revision
@@ -40,6 +41,7 @@ impl DiagnosticList {
 
     /// The JSON array of the diagnostics, without white space.
     pub fn text(&self) -> &str
+        // The text of the list.
         ensures { result.now ≡ self.now.text }
     {
         self.text.as_str()
@@ -92,6 +94,9 @@ pub fn diagnostic_list<M>(
     alloc: Global,
     reply: &Reply<ProtoKey, ProtoValue, M>,
 ) -> Result<Option<DiagnosticList>, AllocError>
+    // The list of the diagnostics that a reply answers, at the revision of the reply; `None` for a
+    // reply that answers none. Where an import has a syntax error, P104 and P150 are information in
+    // the list.
     ensures { IfOk result (λ list. list ≡ list_of reply.now) }
 {
     match answered_diagnostics(reply) {

@@ -15,6 +15,7 @@ pub const WATCH_FILES: &str =
 
 /// The list of a file without diagnostics.
 pub fn empty_list() -> &'static str
+    // The text `[]`.
     ensures { result.now ≡ codes "[]" }
 {
     "[]"
@@ -54,6 +55,7 @@ pub fn published_text(
     version: Option<i64>,
     list: &str,
 ) -> Result<String, AllocError>
+    // The notification into which a printed list is put.
     ensures { IfOk result (λ s. string_bytes s ≡ text_published uri.now version list.now) }
 {
     let uri = json_string(alloc, uri)?;

@@ -19,6 +19,8 @@ pub fn editor_text<M>(
     root: &Root,
     reply: &Reply<ProtoKey, ProtoValue, M>,
 ) -> Result<String, AllocError>
+    // The text of a reply that answers diagnostics has them as `diagnostic_list` does; any other
+    // reply has its text.
     ensures { IfOk result (λ s. string_bytes s ≡ editor_reply_text root.now reply.now) }
 {
     match answered_diagnostics(reply) {
@@ -34,6 +36,7 @@ pub fn editor_text<M>(
 /// The name of the file of the location that `reply` answers (LSP 3.17, "Goto Definition Request"),
 /// if it answers one.
 pub fn definition_file<M>(reply: &Reply<ProtoKey, ProtoValue, M>) -> Option<&str>
+    // The file of the location that a reply answers.
     ensures { option_map (λ name. name.now) result ≡ file_of_definition reply.now }
 {
     match outcome_value(reply.outcome())? {

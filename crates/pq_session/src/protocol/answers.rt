@@ -17,6 +17,9 @@ use pq_proto::{Location, Printer, ProtoKey, ProtoValue};
 use pq_rules::Answer;
 use std::alloc::{AllocError, Global};
 
+/// The bytes for which there is room at first, for a response and for each of its diagnostics.
+const EACH: usize = 256;
+
 /// The response that reports the diagnostics `diagnosed` of a file at a revision of the sources, with
 /// the severities of an editor where `unread` is true.
 pub(crate) fn diagnostics_text(
@@ -29,7 +32,9 @@ pub(crate) fn diagnostics_text(
     ensures { IfOk result (λ s. string_bytes s
         ≡ shown_text (label_model label.now) unread diagnosed.now revision) }
 {
-    let mut out = Printer::new(alloc);
+    let count = diagnosed.diagnostics.as_slice().len();
+    let room = count.saturating_mul(EACH).saturating_add(EACH);
+    let mut out = Printer::with_capacity(alloc, room)?;
     print_start(&mut out, label)?;
     print_report(alloc, &mut out, unread, diagnosed, revision)?;
     out.end_object()?;
@@ -114,6 +119,8 @@ pub fn reply_text<M>(
     root: &Root,
     reply: &Reply<ProtoKey, ProtoValue, M>,
 ) -> Result<String, AllocError>
+    // The text of a reply by its outcome: an answer, the fixed text, content modified with both
+    // revisions, request cancelled, or out of memory.
     ensures { IfOk result (λ s. string_bytes s ≡ text_of_reply root.now reply.now) }
 {
     let request = reply.request();

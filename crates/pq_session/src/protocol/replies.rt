@@ -102,6 +102,7 @@ pub(crate) fn refusal_text(
 /// The response to a request after an allocation failure: the error -32603 (JSON-RPC 2.0, "Error
 /// object"). Only `Memory` is an error, after an allocation failure of its own.
 pub fn out_of_memory_text(alloc: Global, label: &Label) -> Result<String, AllocError>
+    // The text of the error -32603 to a request with this label.
     ensures { IfOk result (λ s. string_bytes s ≡ text_of_out_of_memory (label_model label.now)) }
 {
     refusal_text(alloc, label, Refusal::OutOfMemory)

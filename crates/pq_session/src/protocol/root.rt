@@ -35,6 +35,8 @@ impl Root {
     /// The root of the member `rootUri` of `initialize` (LSP 3.17, "InitializeParams"). It is empty
     /// if `uri` is absent or names no path.
     pub fn of(alloc: Global, uri: Option<&str>) -> Result<Root, AllocError>
+        // The root of a session is that of the definitions, by the member `rootUri` of
+        // `initialize`.
         ensures { IfOk result (λ root. root ≡ root_of (option_map (λ text. text.now) uri.entry)) }
     {
         let path = match uri {
@@ -52,6 +54,7 @@ impl Root {
 
     /// The root folder at `path`.
     pub fn at(alloc: Global, path: &str) -> Result<Root, AllocError>
+        // The root at a path is that of the definitions.
         ensures { IfOk result (λ root. root ≡ without_last_slashes path.now) }
     {
         Ok(Root {
@@ -62,6 +65,7 @@ impl Root {
     /// A copy, which takes no memory. `Memory` comes only where a long path has as many copies as
     /// can be counted.
     pub fn copy(&self) -> Result<Root, AllocError>
+        // A copy is equal.
         ensures { IfOk result (λ root. root ≡ self.now) }
     {
         Ok(Root {
@@ -71,6 +75,7 @@ impl Root {
 
     /// The path.
     pub fn path(&self) -> &str
+        // The path of the root.
         ensures { result.now ≡ self.now }
     {
         self.path.as_str()
@@ -78,6 +83,7 @@ impl Root {
 
     /// The name of the file at `path`, if `path` is below the root.
     pub fn name_below<'a>(&self, path: &'a str) -> Option<&'a str>
+        // The name of the file at a path is that of the definitions.
         ensures { option_map (λ name. name.now) result ≡ name_below_root self.now path.now }
     {
         name_below(self.path.as_str(), path)
@@ -86,6 +92,7 @@ impl Root {
     /// The name of the file of `uri`, if it names one.
     #[tactic(auto, unfolding(crate::specs::Uri::file_of))]
     pub fn file_of(&self, alloc: Global, uri: &str) -> Result<Option<Text>, AllocError>
+        // The name of the file of a URI is that of the definitions.
         ensures { IfOk result (λ file. file ≡ file_of self.now uri.now) }
     {
         let Some(path) = decoded_path(alloc, uri)? else {
@@ -101,6 +108,7 @@ impl Root {
     /// file (the law `uris_come_back`).
     #[tactic(auto, using(crate::proofs::EscapeLemmas::uri_absolute, crate::proofs::EscapeLemmas::uri_relative))]
     pub fn uri_of(&self, alloc: Global, name: &str) -> Result<String, AllocError>
+        // The printed URI of a file is that of the definitions.
         ensures { IfOk result (λ uri. string_bytes uri ≡ uri_of self.now name.now) }
     {
         let mut uri = String::from_str(alloc, "file://")?;

@@ -38,6 +38,7 @@ impl Model for Session {
 impl Session {
     /// A session before `initialize`.
     pub fn new() -> Session
+        // A new session is in the phase `Fresh`.
         ensures { result ≡ Fresh }
     {
         Session {
@@ -48,6 +49,7 @@ impl Session {
     /// The root that `initialize` gave, up to `shutdown`. It never changes, so a copy of it serves
     /// whoever prints the URIs of files.
     pub fn root(&self) -> Option<&Root>
+        // The root that the session has is that of the definitions.
         ensures { option_map (λ root. root.now) result ≡ root_in self.now }
     {
         self.phase.root()
@@ -59,13 +61,18 @@ impl Session {
     ///
     /// An allocation failure leaves the session as it was, and the message is lost.
     pub fn on(&mut self, alloc: Global, message: Message) -> Result<Item<ProtoKey>, AllocError>
+        // The item of a message means what the definition says, by the phase before it.
         ensures meaning { IfOk result (λ item.
             item_meaning item ≡ meaning_of self.old (message_model message)) }
+        // `label`, `want`: A request's item has the label of its response; an `Ask` has a demand, a
+        // `Say` a fixed text.
         ensures label { IfOk result (λ item.
             option_map label_model (item_label item) ≡ reply_label (message_model message)) }
+        // If the label of the message has its one form, so has the label of the item.
         ensures one_form { HasOneLabel message → IfOk result (λ item.
             IfSome (item_label item) HasOneForm) }
         ensures want { IfOk result HasFittingWant }
+        // `phase`, `kept`: The phase goes on as defined; an allocation failure leaves it as it was.
         ensures phase { OnOk result (self.new ≡ next_phase self.old (message_model message)) }
         ensures kept { OnErr result (self.new ≡ self.old) }
     {

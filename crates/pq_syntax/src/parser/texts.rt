@@ -1,8 +1,9 @@
 //! What the tokens taken stand for: their span, their text, their values. The tokens taken are
 //! those of `tokens` before `rest`.
 
-ghost use Rattle.std.specs.Prelude.{◌≡◌, ◌++◌, List, ℕ, true, IfOk};
+ghost use Rattle.std.specs.Prelude.{◌≡◌, ◌≤◌, ◌++◌, List, ℕ, Some, length, true, IfOk};
 ghost use Rattle.std.specs.Str.Lossy.{utf8_lossy};
+ghost use Rattle.pq_lex.specs.declared.token.Span.{Span};
 ghost use Rattle.pq_lex.specs.Values.{spelling, text_value_of};
 ghost use Rattle.pq_syntax.specs.Yield.{yield_of};
 ghost use Rattle.pq_syntax.specs.Parts.{joined, name_of, number_of, spaced, span_across, strings_of, values};
@@ -78,6 +79,25 @@ fn read_spelling(alloc: Global, text: &str, span: Span) -> Result<Text, Memory>
     Text::from_string(alloc, String::from_utf8_lossy(alloc, spelling(text, span))?)
 }
 
+/// The span of the tokens, if each begins where the one before it ends, in order. In that span a
+/// text has their spellings with nothing between them.
+fn side_by_side(tokens: &[Token]) -> Option<Span>
+    ensures { (text : List ℕ) (whole : Span) → result ≡ Some whole → whole.end ≤ length text → joined (words text tokens.now) ≡ spelling text whole }
+{
+    if tokens.is_empty() {
+        return None;
+    }
+    let start = tokens[0].span.start;
+    let mut end = start;
+    for token in tokens {
+        if token.span.start != end || token.span.end < end {
+            return None;
+        }
+        end = token.span.end;
+    }
+    Some(Span { start, end })
+}
+
 /// The text of the tokens taken as written, with nothing between them.
 pub(crate) fn read_joined(
     alloc: Global,
@@ -88,8 +108,10 @@ pub(crate) fn read_joined(
     ensures { IfOk result (λ t. (ws : List Word) → words text.now tokens.now ≡ ws ++ words text.now rest.now → t ≡ utf8_lossy (joined ws)) }
 {
     let taken = taken(tokens, rest);
-    if taken.len() == 1 {
-        return read_spelling(alloc, text, taken[0].span);
+    if let Some(whole) = side_by_side(taken) {
+        if whole.end <= text.len() {
+            return read_spelling(alloc, text, whole);
+        }
     }
     let bytes = joined(alloc, text, taken)?;
     Text::from_string(alloc, String::from_utf8_lossy(alloc, bytes.as_slice())?)
@@ -104,7 +126,11 @@ pub(crate) fn read_spaced(
 ) -> Result<Text, Memory>
     ensures { IfOk result (λ t. (ws : List Word) → words text.now tokens.now ≡ ws ++ words text.now rest.now → t ≡ utf8_lossy (spaced ws)) }
 {
-    let bytes = spaced(alloc, text, taken(tokens, rest))?;
+    let taken = taken(tokens, rest);
+    if taken.len() == 1 {
+        return read_spelling(alloc, text, taken[0].span);
+    }
+    let bytes = spaced(alloc, text, taken)?;
     Text::from_string(alloc, String::from_utf8_lossy(alloc, bytes.as_slice())?)
 }
 
@@ -138,6 +164,9 @@ fn value_of(alloc: Global, text: &str, span: Span) -> Result<Vec<u8>, Memory>
 fn joined_values(alloc: Global, text: &str, tokens: &[Token]) -> Result<Vec<u8>, Memory>
     ensures { IfOk result (λ bytes. bytes.items ≡ values (words text.now tokens.now)) }
 {
+    if tokens.len() == 1 {
+        return value_of(alloc, text, tokens[0].span);
+    }
     let mut bytes = Vec::new(alloc);
     for token in tokens {
         bytes.extend_from_slice(value_of(alloc, text, token.span)?.as_slice())?;

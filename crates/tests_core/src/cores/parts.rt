@@ -4,8 +4,8 @@
 //! A script has a line `CALL => ANSWER`.
 //!
 //! - `open`, `next`, `accept CLIENT REQUEST`, `edit CLIENT CHANGE`, `start`, `look RUN`, `give RUN`,
-//!   `starve RUN`, `made`, `more CLIENT`, `collect CLIENT`, `seen CLIENT NUMBER`, `close CLIENT` and
-//!   `idle` are calls of the store. The work that a look hands out is lost. `give` takes a step,
+//!   `starve RUN`, `made`, `more CLIENT`, `collect CLIENT`, `seen CLIENT NUMBER`, `owes CLIENT`,
+//!   `close CLIENT`, `waiting`, `there KEY` and `idle` are calls of the store. The work that a look hands out is lost. `give` takes a step,
 //!   carries its work out and gives the result. A reply that is collected is kept.
 //! - `late CLIENT CHANGE ; OTHER` prepares a change, makes the edit `OTHER`, and makes the edit that was
 //!   prepared. Where its text is not current, it writes `stale` and prepares the change again. `text
@@ -23,7 +23,7 @@ mod lanes;
 mod prepared;
 mod stores;
 
-use super::lines::{change_of, client_of, number_of, request_of};
+use super::lines::{Sample, change_of, client_of, number_of, request_of};
 use super::shown::{add_fault, add_released, add_run, yes_or_no};
 use crate::checks::{check_page, check_row_count, split_row};
 use calls::{Laying, List, Storing};
@@ -117,6 +117,7 @@ fn plain_answer<S: Storing>(page: &mut Page, store: &mut S, call: &str) {
         "next" => add_client(page, store.next()),
         "start" => add_run(page, store.started()),
         "made" => add_client(page, store.next_with_made()),
+        "waiting" => page.add(yes_or_no(store.is_waiting())),
         _ => page.add(yes_or_no(store.idles())),
     }
 }
@@ -174,6 +175,7 @@ fn client_answer<S: Storing>(
             edit_late(page, store, client, change, between);
         }
         "more" => page.add(yes_or_no(store.is_made(client))),
+        "owes" => page.add(yes_or_no(store.is_owed(client))),
         "collect" => collect(page, store, kept, client),
         "seen" => store.acknowledged(client, Number::new(number_of(rt, rest))),
         _ => page.add(yes_or_no(store.closed(client))),
@@ -211,7 +213,13 @@ fn check_line<S: Storing, L: Laying>(
     let (first, more) = rest.split_once(" ").unwrap_or((rest, ""));
     let mut page = Page::new(rt.alloc());
     match call {
-        "open" | "next" | "start" | "made" | "idle" => plain_answer(&mut page, store, call),
+        "open" | "next" | "start" | "made" | "waiting" | "idle" => {
+            plain_answer(&mut page, store, call);
+        }
+        "there" => {
+            let key = SumsKey::written(rt, rest);
+            page.add(yes_or_no(store.is_there(rt.alloc(), &key)));
+        }
         "look" | "give" | "starve" => {
             run_answer(&mut page, store, call, RunId::new(number_of(rt, first)));
         }

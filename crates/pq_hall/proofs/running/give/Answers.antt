@@ -1,6 +1,6 @@
 use Rattle.pq_core.proofs.TwoCalls.{memos_through}
 use Rattle.pq_core.specs.Works.{DoneView}
-use Rattle.pq_core.specs.declared.fault.GiveRefused.{GiveRefused}
+use Rattle.pq_core.specs.declared.values.fault.GiveRefused.{GiveRefused}
 use Rattle.pq_hall.proofs.HandMoves.{give_counts, give_starved, give_over, given_cause, given_counts, given_hands, given_holder}
 use Rattle.pq_hall.proofs.running.give.Goals as goal
 

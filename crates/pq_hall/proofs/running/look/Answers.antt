@@ -1,7 +1,7 @@
 use Rattle.std.proofs.Common.{Err, subst}
 use Rattle.pq_core.specs.Moves.{Looks}
 use Rattle.pq_core.specs.Stores.{Goes}
-use Rattle.pq_core.specs.declared.fault.LookFault.{LookFault}
+use Rattle.pq_core.specs.declared.values.fault.LookFault.{LookFault}
 use Rattle.pq_core.proofs.TwoCalls.{memos_through}
 use Rattle.pq_hall.proofs.HandMoves.{look_counts, look_starved}
 use Rattle.pq_hall.proofs.running.look.Goals as goal

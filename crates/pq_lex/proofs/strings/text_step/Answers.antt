@@ -1,7 +1,8 @@
-use Rattle.std.proofs.Common.{◌∙◌, sym, arith, length, refl, get_or}
+use Rattle.std.proofs.Common.{◌∙◌, sym, arith, length, refl, get_or, subst}
 use Rattle.std.proofs.lemmas.Bool.{eq-eqb, ne_eqb}
 use Rattle.pq_lex.proofs.EscapeLemmas.{escape_further}
-use Rattle.pq_lex.proofs.StringSteps.{closes_here, bad_here, open_here, escape_goes, plain_goes, open_at_end}
+use Rattle.pq_lex.proofs.StringRuns.{plain_run_goes}
+use Rattle.pq_lex.proofs.StringSteps.{Goes, closes_here, bad_here, open_here, escape_goes, open_at_end}
 use Rattle.pq_lex.proofs.strings.text_step.Goals as goal
 
 pub loop-at-init : goal.loop-at-init
@@ -9,8 +10,10 @@ loop-at-init c = record { fuel = length c.args.bytes.now; enough = omega arith; 
 
 pub loop-at-preserved-then-is_plain : goal.loop-at-preserved-then-is_plain
 loop-at-preserved-then-is_plain c =
-    let g = plain_goes (get_or c.args.bytes.now c.args.start 0) c.args.start c.args.bytes.now c.loop-at.at c.loop-at-test.true c.loop-at.invariant.fuel c.loop-at.invariant.enough (sym c.is_plain.ensures ∙ c.if-is_plain.true) in
-    record { fuel = g.less; enough = g.enough; goes = c.loop-at.invariant.goes ∙ g.same }
+    let quote = get_or c.args.bytes.now c.args.start 0 in
+    let g = plain_run_goes quote c.args.start c.args.bytes.now c.requires.quoted c.loop-at.at c.loop-at.invariant.fuel c.loop-at-test.true c.loop-at.invariant.enough (sym c.is_plain.ensures ∙ c.if-is_plain.true) in
+    let moved : Goes c.loop-at.invariant.fuel quote c.args.start c.args.bytes.now c.loop-at.at c.run_end-at.result = subst (Goes c.loop-at.invariant.fuel quote c.args.start c.args.bytes.now c.loop-at.at) (sym c.run_end-at.ensures.end) g in
+    record { fuel = moved.less; enough = moved.enough; goes = c.loop-at.invariant.goes ∙ moved.same }
 
 pub returns-then-b-quote : goal.returns-then-b-quote
 returns-then-b-quote c = sym (c.loop-at.invariant.goes ∙ closes_here _ c.args.start c.args.bytes.now c.loop-at.at c.loop-at-test.true c.loop-at.invariant.fuel c.loop-at.invariant.enough c.if-b-quote.true)

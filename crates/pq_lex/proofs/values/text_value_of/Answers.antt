@@ -6,7 +6,7 @@ use Rattle.pq_lex.proofs.ValueSteps.{escape_adds, plain_adds, no_escape, no_more
 use Rattle.pq_lex.proofs.values.text_value_of.Goals as goal
 
 pub loop-at-init : goal.loop-at-init
-loop-at-init c = record { fuel = length c.args.word.now; enough = omega arith; goes = rw c.new-value.ensures.items (value_begins c.args.word.now) }
+loop-at-init c = record { fuel = length c.args.word.now; enough = omega arith; goes = rw c.in_ok-value.ensures.items (value_begins c.args.word.now) }
 
 pub returns-in_default : goal.returns-in_default
 returns-in_default c = all_added _ _ _ c.loop-at.invariant.goes (no_escape c.args.word.now c.loop-at.at c.loop-at.invariant.fuel c.if-b-eq92.true (sym c.escape_at.ensures ∙ c.in_default.is))

@@ -2,8 +2,8 @@ use Rattle.std.proofs.Common.{subst, ℕ}
 use Rattle.std.specs.Prelude.{Result, Ok}
 use Rattle.std.proofs.lemmas.Result.{on_ok_weaker}
 use Rattle.pq_core.specs.Moves.{Reaches, Accepts}
-use Rattle.pq_core.specs.declared.request.Request.{Request}
-use Rattle.pq_core.specs.declared.fault.AcceptRefused.{AcceptRefused}
+use Rattle.pq_core.specs.declared.values.request.Request.{Request}
+use Rattle.pq_core.specs.declared.values.fault.AcceptRefused.{AcceptRefused}
 use Rattle.pq_play.specs.World.{replies_of, own_point}
 use Rattle.pq_play.specs.aux.Running.{done_of}
 use Rattle.pq_core.specs.Cores.{StandsFor}

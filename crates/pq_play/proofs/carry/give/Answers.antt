@@ -2,8 +2,8 @@ use Rattle.std.proofs.Common.{refl, subst, sym, ◌∙◌}
 use Rattle.std.specs.Prelude.{Result}
 use Rattle.pq_core.specs.Works.{DoneView, WorkView}
 use Rattle.pq_core.specs.Moves.{Reaches, Gives}
-use Rattle.pq_core.specs.declared.moves.Move.{Move}
-use Rattle.pq_core.specs.declared.fault.GiveRefused.{GiveRefused}
+use Rattle.pq_core.specs.declared.values.moves.Move.{Move}
+use Rattle.pq_core.specs.declared.values.fault.GiveRefused.{GiveRefused}
 use Rattle.pq_play.specs.aux.Running.{done_of}
 use Rattle.pq_core.specs.Cores.{StandsFor}
 use Rattle.pq_play.proofs.Ruled.{by_rules, made_by}

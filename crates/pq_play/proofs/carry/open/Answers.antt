@@ -3,7 +3,7 @@ use Rattle.std.specs.Prelude.{Result, Ok, Err}
 use Rattle.pq_core.specs.Points.{Point}
 use Rattle.pq_core.specs.Outboxes.{Listed}
 use Rattle.pq_core.specs.Moves.{Reaches, Opens}
-use Rattle.pq_core.specs.declared.fault.OpenRefused.{OpenRefused}
+use Rattle.pq_core.specs.declared.values.fault.OpenRefused.{OpenRefused}
 use Rattle.pq_play.specs.Steps.{OpenAnswered}
 use Rattle.pq_play.specs.aux.Seats.{SeatView}
 use Rattle.pq_play.specs.aux.Running.{done_of}

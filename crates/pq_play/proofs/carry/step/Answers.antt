@@ -3,8 +3,8 @@ use Rattle.std.specs.Prelude.{Result}
 use Rattle.std.proofs.lemmas.Result.{on_ok_weaker}
 use Rattle.pq_core.specs.Works.{WorkView}
 use Rattle.pq_core.specs.Moves.{Reaches, Looks}
-use Rattle.pq_core.specs.declared.moves.Move.{Move}
-use Rattle.pq_core.specs.declared.fault.LookFault.{LookFault}
+use Rattle.pq_core.specs.declared.values.moves.Move.{Move}
+use Rattle.pq_core.specs.declared.values.fault.LookFault.{LookFault}
 use Rattle.pq_play.specs.aux.Running.{done_of}
 use Rattle.pq_core.specs.Cores.{StandsFor}
 use Rattle.pq_play.specs.World.{replies_of, own_point}

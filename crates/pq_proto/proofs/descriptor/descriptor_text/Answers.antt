@@ -6,7 +6,7 @@ use Rattle.json.specs.Print.{print}
 use Rattle.serde_json.specs.Written.{compact_text}
 use Rattle.serde_json.proofs.Texts.{print-outline}
 use Rattle.pq_schema.specs.Definitions.{package_of}
-use Rattle.pq_schema.specs.declared.resolved.ResolvedReference.{ResolvedReference}
+use Rattle.pq_schema.specs.declared.queries.resolved.ResolvedReference.{ResolvedReference}
 use Rattle.pq_proto.specs.Descriptor.{descriptor, file_data}
 use Rattle.pq_proto.specs.aux.Printed.{tokens_of}
 use Rattle.pq_proto.specs.aux.Rests.{Rest, left}

@@ -1,7 +1,7 @@
 use Rattle.std.proofs.Common.{refl}
 use Rattle.pq_rules.proofs.Order.{strict}
-use Rattle.pq_schema.specs.contracts.rules.SchemaKeyOrd.TheImpl as key_order
-use Rattle.pq_schema.specs.contracts.rules.SchemaKeyOrd.TheImpl.Laws.{total-law}
+use Rattle.pq_schema.specs.contracts.queries.rules.SchemaKeyOrd.TheImpl as key_order
+use Rattle.pq_schema.specs.contracts.queries.rules.SchemaKeyOrd.TheImpl.Laws.{total-law}
 use Rattle.pq_schema.proofs.RuleSetMeaning.{means_compiles}
 use Rattle.pq_schema.proofs.laws.schema_values.Goals as goal
 

@@ -71,6 +71,15 @@ pub(super) trait Storing {
 
     /// Whether nothing waits and no run exists.
     fn idles(&self) -> bool;
+
+    /// Whether a request waits for a run.
+    fn is_waiting(&self) -> bool;
+
+    /// Whether a reply to a client was not acknowledged.
+    fn is_owed(&self, client: ClientId) -> bool;
+
+    /// Whether the answer of a key is there.
+    fn is_there(&self, alloc: Global, key: &SumsKey) -> bool;
 }
 
 /// A copy of `text`.
@@ -178,6 +187,18 @@ impl Storing for Store<Sums, PlainStamp> {
 
     fn idles(&self) -> bool {
         self.is_idle()
+    }
+
+    fn is_waiting(&self) -> bool {
+        self.has_waiting()
+    }
+
+    fn is_owed(&self, client: ClientId) -> bool {
+        self.owes(client)
+    }
+
+    fn is_there(&self, alloc: Global, key: &SumsKey) -> bool {
+        self.has_answer(alloc, key)
     }
 }
 

@@ -114,3 +114,42 @@ fn runs_of_a_store(rt: HostRuntime) {
         ",
     );
 }
+
+// A client is owed a reply from the request on until the reply is acknowledged, or the client is closed.
+// A request waits until its run starts. The answer of a key is there until what it read is changed.
+#[test]
+fn what_a_store_owes(rt: HostRuntime) {
+    check_parts(
+        &rt,
+        27,
+        "\
+        owes 0 => no\n\
+        open => 0\n\
+        owes 0 => no\n\
+        waiting => no\n\
+        edit 0 low a= => 1\n\
+        there Sum a => no\n\
+        accept 0 7 Sum a => 0\n\
+        owes 0 => yes\n\
+        waiting => yes\n\
+        start => 0\n\
+        waiting => no\n\
+        give 0 => stepped\n\
+        give 0 => stepped\n\
+        there Sum a => yes\n\
+        look 0 => answered\n\
+        owes 0 => yes\n\
+        collect 0 => 0 answered\n\
+        owes 0 => yes\n\
+        seen 0 1 => \n\
+        owes 0 => no\n\
+        edit 0 low a=b => 2\n\
+        there Sum a => no\n\
+        accept 0 8 say c => 1\n\
+        owes 0 => yes\n\
+        waiting => no\n\
+        close 0 => yes\n\
+        owes 0 => no\n\
+        ",
+    );
+}

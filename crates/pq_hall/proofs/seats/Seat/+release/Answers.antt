@@ -1,5 +1,5 @@
 use Rattle.std.proofs.Common.{rules}
-use Rattle.pq_core.specs.declared.moves.Released.TheVariants.{Full, Gone, Nothing}
+use Rattle.pq_core.specs.declared.values.moves.Released.TheVariants.{Full, Gone, Nothing}
 use Rattle.pq_hall.proofs.SeatMoves.{at_last, none_next, put_then, vacant_after}
 use Rattle.pq_hall.proofs.seats.Seat.+release.Goals as goal
 

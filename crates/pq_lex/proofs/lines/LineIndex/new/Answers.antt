@@ -11,8 +11,8 @@ use Rattle.pq_lex.proofs.lines.LineIndex.new.Goals as goal
 pub lines-init : goal.lines-init
 lines-init c = record {
   within = omega arith;
-  made = ap (λ ms. ms ++ mark c.args.text.now 0 ∷ []) (none_made (record { starts = c.new.result; ends = c.new-2.result; wide = c.new-3.result }) c.new.ensures) ∙ first_line c.args.text.now;
-  marked = none_marked (record { starts = c.new.result; ends = c.new-2.result; wide = c.new-3.result }) c.new.ensures c.new-2.ensures c.new-3.ensures.items;
+  made = ap (λ ms. ms ++ mark c.args.text.now 0 ∷ []) (none_made (record { starts = c.in_ok-with_capacity.field-0; ends = c.in_ok-with_capacity-2.field-0; wide = c.new.result }) c.in_ok-with_capacity.ensures) ∙ first_line c.args.text.now;
+  marked = none_marked (record { starts = c.in_ok-with_capacity.field-0; ends = c.in_ok-with_capacity-2.field-0; wide = c.new.result }) c.in_ok-with_capacity.ensures c.in_ok-with_capacity-2.ensures c.new.ensures.items;
   left = all_left c.args.text.now c.memchr2_iter-ends.result (c.memchr2_iter-ends.ensures.value ∙ ap (places (is_byte2 10 13)) c.as_bytes-bytes.ensures.value);
 }
 

@@ -1,6 +1,6 @@
 use Rattle.std.proofs.Common.{Bool, List, ap, ◌∙◌}
 use Rattle.serde_json.specs.Written.{compact_text}
-use Rattle.pq_checks.specs.declared.diagnostic.Diagnostic.{Diagnostic}
+use Rattle.pq_checks.specs.declared.errors.diagnostic.Diagnostic.{Diagnostic}
 use Rattle.pq_session.specs.Editor.{has_unread, shown_items, shown_list}
 use Rattle.pq_session.proofs.PrintLemmas.{printed_alone}
 use Rattle.pq_session.proofs.editor.lists.shown_list.Goals as goal

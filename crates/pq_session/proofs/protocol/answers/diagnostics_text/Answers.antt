@@ -8,4 +8,4 @@ pub returns : goal.returns
 unfolding shown_text
 returns c =
     let d = shown_report c.args.unread c.args.diagnosed.now c.args.revision in
-    c.into_string.ensures ∙ printed_reply (label_model c.args.label.now) d c.new-out.result c.print_start.new.out c.print_report.new.out c.end_object.new.self c.new-out.ensures c.in_ok-print_start.ensures c.in_ok-print_report.ensures c.in_ok-end_object.ensures
+    c.into_string.ensures ∙ printed_reply (label_model c.args.label.now) d c.in_ok-out.out c.print_start.new.out c.print_report.new.out c.end_object.new.self c.in_ok-out.ensures c.in_ok-print_start.ensures c.in_ok-print_report.ensures c.in_ok-end_object.ensures

@@ -4,7 +4,7 @@ use Rattle.json.specs.Token.{Token, begin_object, end_object, key, number, strin
 use Rattle.pq_lex.specs.declared.position.Position.{Position}
 use Rattle.pq_links.specs.declared.files.ParsedFile.{ParsedFile}
 use Rattle.pq_checks.specs.Codes.{code_text}
-use Rattle.pq_checks.specs.declared.diagnostic.Diagnostic.{Diagnostic}
+use Rattle.pq_checks.specs.declared.errors.diagnostic.Diagnostic.{Diagnostic}
 use Rattle.pq_proto.specs.Compile.{position_in}
 use Rattle.pq_proto.specs.Ranges.{range_data}
 use Rattle.pq_proto.specs.aux.Printed.{tokens_of}

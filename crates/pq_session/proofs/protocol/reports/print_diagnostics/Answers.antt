@@ -1,6 +1,6 @@
 use Rattle.std.proofs.Common.{List, ◌++◌, sym, ap, ◌∙◌}
 use Rattle.json.specs.Token.{Token}
-use Rattle.pq_checks.specs.declared.diagnostic.Diagnostic.{Diagnostic}
+use Rattle.pq_checks.specs.declared.errors.diagnostic.Diagnostic.{Diagnostic}
 use Rattle.pq_proto.specs.aux.Printed.{tokens_of}
 use Rattle.pq_session.specs.Editor.{shown_data}
 use Rattle.pq_proto.proofs.ListSteps.{printed_all, values_map}

@@ -1,4 +1,4 @@
-use Rattle.pq_checks.specs.declared.diagnostic.Diagnostic.{Diagnostic}
+use Rattle.pq_checks.specs.declared.errors.diagnostic.Diagnostic.{Diagnostic}
 use Rattle.pq_proto.specs.aux.Printed.{tokens_of}
 use Rattle.pq_session.specs.Editor.{shown_data}
 use Rattle.pq_proto.proofs.ListSteps.{PrintedTo}

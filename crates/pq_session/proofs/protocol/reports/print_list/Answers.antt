@@ -3,8 +3,8 @@ use Rattle.std.specs.Prelude.{map}
 use Rattle.json.specs.Token.{Token, begin_array, end_array}
 use Rattle.serde_json.specs.Data.{Data}
 use Rattle.pq_links.specs.declared.files.ParsedFile.{ParsedFile}
-use Rattle.pq_checks.specs.declared.diagnostic.Diagnostic.{Diagnostic}
-use Rattle.pq_checks.specs.declared.diagnostic.Diagnosed.{Diagnosed}
+use Rattle.pq_checks.specs.declared.errors.diagnostic.Diagnostic.{Diagnostic}
+use Rattle.pq_checks.specs.declared.errors.diagnostic.Diagnosed.{Diagnosed}
 use Rattle.pq_proto.specs.Lists.{list_data}
 use Rattle.pq_proto.specs.aux.Printed.{tokens_of, values_of}
 use Rattle.pq_proto.proofs.ListSteps.{link, list_then}

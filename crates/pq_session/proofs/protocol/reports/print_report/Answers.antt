@@ -1,7 +1,7 @@
 use Rattle.std.proofs.Common.{◌≡◌, ℕ, List, [], ◌∷◌, ◌++◌, ap, ◌∙◌}
 use Rattle.std.specs.Prelude.{codes, decimal}
 use Rattle.json.specs.Token.{Token, begin_object, end_object, key, string}
-use Rattle.pq_checks.specs.declared.diagnostic.Diagnosed.{Diagnosed}
+use Rattle.pq_checks.specs.declared.errors.diagnostic.Diagnosed.{Diagnosed}
 use Rattle.pq_proto.specs.aux.Printed.{tokens_of}
 use Rattle.pq_proto.proofs.ListSteps.{link}
 use Rattle.pq_session.specs.Editor.{shown_items}

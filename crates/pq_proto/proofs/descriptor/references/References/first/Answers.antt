@@ -1,7 +1,7 @@
 use Rattle.std.proofs.Common.{List, get_or, sym, ap, ◌∙◌}
 use Rattle.std.specs.Prelude.{Option}
 use Rattle.std.specs.Option.{option_map_or}
-use Rattle.pq_schema.specs.declared.resolved.ResolvedReference.{ResolvedReference}
+use Rattle.pq_schema.specs.declared.queries.resolved.ResolvedReference.{ResolvedReference}
 use Rattle.pq_proto.specs.Types.{no_type, type_to}
 use Rattle.pq_proto.proofs.FirstSteps.{at_index, first_is}
 use Rattle.pq_proto.proofs.descriptor.references.References.first.Goals as goal

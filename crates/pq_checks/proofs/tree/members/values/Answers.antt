@@ -1,0 +1,12 @@
+use Rattle.std.proofs.Common.{◌∙◌}
+use Rattle.pq_checks.specs.Members.{value_at}
+use Rattle.pq_checks.specs.aux.Spots.{in_spot}
+use Rattle.pq_checks.proofs.Passes.{each_more, each_all}
+use Rattle.pq_checks.proofs.Spotting.{spotted}
+use Rattle.pq_checks.proofs.tree.members.values.Goals as goal
+
+pub spots-preserved : goal.spots-preserved
+spots-preserved c = each_more (in_spot value_at) _ _ _ _ _ _ c.spots-test.true c.index-spots-i.is c.in_ok-push_value.ensures c.spots.invariant
+
+pub returns : goal.returns
+returns c = record { values = each_all (in_spot value_at) _ _ _ _ c.spots-test.false c.spots.invariant ∙ spotted value_at c.args.spots.now }

@@ -1,9 +1,0 @@
-use Rattle.pq_checks.specs.aux.Seen.{extends_in}
-use Rattle.pq_checks.proofs.Passes.{each_more, each_all}
-use Rattle.pq_checks.proofs.unread_lines.push_extends.Goals as goal
-
-pub spots-preserved : goal.spots-preserved
-spots-preserved c = each_more extends_in _ _ _ _ _ _ c.spots-test.true c.index-spots-i.is c.in_ok-push_extend.ensures c.spots.invariant
-
-pub returns : goal.returns
-returns c = each_all extends_in _ _ _ _ c.spots-test.false c.spots.invariant

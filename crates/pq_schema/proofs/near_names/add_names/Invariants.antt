@@ -1,5 +1,0 @@
-use Rattle.pq_schema.proofs.NearNames.{SoFar}
-use Rattle.pq_schema.proofs.near_names.add_names.Given as goal
-
-abbrev pub invariant-entries : goal.invariant-entries
-invariant-entries l = SoFar l.fn.names.items l.names.items l.index l.place l.at

@@ -1,6 +1,0 @@
-use Rattle.std.proofs.Common.{◌≡◌, drop}
-use Rattle.pq_schema.specs.Definitions.{package_of}
-use Rattle.pq_schema.proofs.outline.package_of.Given as goal
-
-abbrev pub invariant-nodes : goal.invariant-nodes
-invariant-nodes l = package_of (drop l.node-index l.nodes) ≡ package_of l.fn.nodes
