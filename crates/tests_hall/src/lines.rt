@@ -3,7 +3,7 @@
 //! A request is `LABEL QUERY NAME` or, for a fixed text, `LABEL say TEXT`; its label is an integer or
 //! `none`. A change is `NAME=TEXT`. A reply to a fixed text is `NUMBER REQUEST @REVISION plain`.
 use crate::checks::split_row;
-use pq_core::{Body, Change, Label, Outcome, PlainStamp, Reply, Request, Want};
+use pq_core::{Body, Change, Label, Outcome, Reply, Request, Stamp, Want};
 use pq_inputs::Durability;
 use pq_names::Text;
 use pq_rules::{SumsKey, SumsValue};
@@ -78,7 +78,7 @@ pub(crate) fn add_request(page: &mut Page, request: &Request<SumsKey>) {
 }
 
 /// Writes a reply as a line has it.
-pub(crate) fn add_reply(page: &mut Page, reply: &Reply<SumsKey, SumsValue, PlainStamp>) {
+pub(crate) fn add_reply<M: Stamp>(page: &mut Page, reply: &Reply<SumsKey, SumsValue, M>) {
     page.wide(reply.number().number());
     page.add(" ");
     add_request(page, reply.request());

@@ -1,9 +1,12 @@
 //! Outboxes: replies that are put, and taken with receipts.
+//!
+//! The helpers are generic in the stamp: the borrow checker does not cover both ends of an outbox where
+//! all their types are named.
 ghost use Rattle.std.specs.Prelude.{◌≡◌, ◌∷◌, [], length};
 
 use crate::checks::{check_page, check_row_count, split_row};
 use crate::lines::{add_reply, number_of, request_of};
-use pq_core::{ClientId, Number, Outbox, PlainStamp, PutFault, Reply, Request};
+use pq_core::{ClientId, Number, Outbox, PlainStamp, PutFault, Reply, Request, Stamp};
 use pq_inputs::{Inputs, Revision};
 use pq_mail::{LaneEnd, MailEnd, Receipt, TakeEnd, outbox};
 use pq_rules::{Sums, SumsKey, SumsValue};
@@ -14,34 +17,33 @@ use test_support::Page;
 
 /// The two ends of an outbox, each there until it is given up, and the count of replies put.
 #[derive(Drop)]
-struct Ends<H: Wait> {
-    lane: Option<Lane<H>>,
-    take: Option<TakeEnd<Sums, PlainStamp>>,
+struct Ends<M: Stamp, H: Wait> {
+    lane: Option<Lane<M, H>>,
+    take: Option<TakeEnd<Sums, M>>,
 }
 
 /// The end of an outbox that puts, and the count of replies that it has put.
 #[derive(Drop)]
-struct Lane<H: Wait> {
-    end: LaneEnd<Sums, PlainStamp, H>,
+struct Lane<M: Stamp, H: Wait> {
+    end: LaneEnd<Sums, M, H>,
     count: u64,
 }
 
-impl<H: Wait> Model for Lane<H> {
+impl<M: Stamp, H: Wait> Model for Lane<M, H> {
     ghost use Rattle.std.specs.Prelude.{◌≡◌, length};
-    ghost use Rattle.pq_core.specs.Points.{Point};
     ghost use Rattle.pq_core.specs.Replies.{ReplyView};
     ghost use Rattle.pq_mail.specs.Mailbox.{Side};
     ghost use Rattle.pq_rules.specs.declared.sums.SumsKey.{SumsKey};
     ghost use Rattle.pq_rules.specs.declared.sums.SumsValue.{SumsValue};
 
-    ghost Value = { Side (ReplyView SumsKey SumsValue Point) };
+    ghost Value = { Side (ReplyView SumsKey SumsValue M) };
 
     ghost view = { λ l. l.end };
 
     ghost invariant = { λ l. l.count ≡ length l.end.items };
 }
 
-impl<H: Wait + Drop> Lane<H> {
+impl<M: Stamp, H: Wait + Drop> Lane<M, H> {
     /// Puts a reply with the next number, and writes what came of it: `put`, `full NUMBER` or
     /// `gone NUMBER`.
     fn put(&mut self, page: &mut Page, request: Request<SumsKey>, now: Revision) {
@@ -62,17 +64,17 @@ impl<H: Wait + Drop> Lane<H> {
 }
 
 /// Writes why a reply was refused, and the number of that which came back.
-fn add_back(page: &mut Page, word: &str, reply: &Reply<SumsKey, SumsValue, PlainStamp>) {
+fn add_back<M: Stamp>(page: &mut Page, word: &str, reply: &Reply<SumsKey, SumsValue, M>) {
     page.add(word);
     page.wide(reply.number().number());
 }
 
 /// Takes the reply of the receipt that `text` writes as `NUMBER REQUEST`, or `NUMBER` alone for a
 /// post without one. Writes the reply, `ended` or `stranger`.
-fn add_taken(
+fn add_taken<M: Stamp>(
     rt: &(impl Abort + AllocGlobal + Wait),
     page: &mut Page,
-    end: &mut TakeEnd<Sums, PlainStamp>,
+    end: &mut TakeEnd<Sums, M>,
     text: &str,
 ) {
     let receipt = receipt_of(rt, text);
@@ -96,10 +98,10 @@ fn receipt_of(rt: &(impl Abort + AllocGlobal), text: &str) -> Receipt<SumsKey> {
 }
 
 /// Puts `count` replies to the request that `text` writes, and writes what came of the last one.
-fn add_put<H: Wait + Drop>(
+fn add_put<M: Stamp, H: Wait + Drop>(
     rt: &(impl Abort + AllocGlobal),
     page: &mut Page,
-    lane: &mut Lane<H>,
+    lane: &mut Lane<M, H>,
     count: u64,
     text: &str,
 ) {
@@ -113,10 +115,10 @@ fn add_put<H: Wait + Drop>(
 
 /// Makes the call of a line, and writes its answer: `put COUNT REQUEST`, `take RECEIPT`, `drop lane`
 /// or `drop take`.
-fn answer<H: Wait + Drop>(
+fn answer<M: Stamp, H: Wait + Drop>(
     rt: &(impl Abort + AllocGlobal + Wait),
     page: &mut Page,
-    ends: &mut Ends<H>,
+    ends: &mut Ends<M, H>,
     call: &str,
 ) {
     let (word, rest) = split_row(rt, call, " ");
@@ -135,11 +137,10 @@ fn answer<H: Wait + Drop>(
     }
 }
 
-/// Runs the script `rows` of `count` lines over a new outbox.
-fn check_rows(rt: &(impl Abort + AllocGlobal + Wait), count: usize, rows: &str) {
-    check_row_count(rt, count, rows);
+/// Runs the script `rows` over a new outbox for replies with stamps of the type `M`.
+fn run_rows<M: Stamp>(rt: &(impl Abort + AllocGlobal + Wait), rows: &str) {
     let (end, take) = outbox(rt.alloc(), Sums, rt).expect(rt, "memory");
-    let mut ends = Ends {
+    let mut ends: Ends<M, _> = Ends {
         lane: Some(Lane { end, count: 0 }),
         take: Some(take),
     };
@@ -149,6 +150,12 @@ fn check_rows(rt: &(impl Abort + AllocGlobal + Wait), count: usize, rows: &str) 
         answer(rt, &mut page, &mut ends, call);
         check_page(rt, &page, want, row);
     }
+}
+
+/// Runs the script `rows` of `count` lines over a new outbox.
+fn check_rows(rt: &(impl Abort + AllocGlobal + Wait), count: usize, rows: &str) {
+    check_row_count(rt, count, rows);
+    run_rows::<PlainStamp>(rt, rows);
 }
 
 // 32 replies enter, the next one is refused and comes back; each that is taken makes room for one.
