@@ -5,7 +5,9 @@ use pq_mail::{PorterEnd, Post, PostEnd, PostFault, PostRefused, Receipt, inbox};
 use pq_rules::{Sums, SumsKey};
 use std::process::Abort;
 use std::sync::Wait;
+use std::sync::atomic::{AtomicUsize, Ordering};
 use std::thread;
+use std::time::{Clock, Duration};
 use test_support::Page;
 
 /// The two ends of an inbox; each is there until it is given up.
@@ -194,4 +196,120 @@ fn posts_wait_for_room(rt: HostRuntime) {
     );
     check_number(&rt, posted, 1000, "posted");
     check_number(&rt, carried, 1000, "carried");
+}
+
+/// The milliseconds for which a thread rests, so that the other one sleeps.
+const REST: u64 = 20;
+
+/// Rests, so that the thread that takes posts sleeps.
+fn rest(rt: &impl Clock) {
+    thread::sleep(rt, Duration::from_millis(REST));
+}
+
+/// Posts `count` ends quietly, and returns how many were accepted.
+fn post_many_quietly<H: Wait>(rt: &H, end: &mut PostEnd<Sums>, count: usize) -> usize {
+    let mut posted = 0usize;
+    for _ in 0..count {
+        if end.post_quietly(rt, Post::End).is_ok() {
+            posted = posted.saturating_add(1);
+        }
+    }
+    posted
+}
+
+/// Posts to a thread that sleeps before each of these: one post; 33 quiet ones, of which the last has no
+/// room; a quiet one, and a wake after it. Gives the end up while that thread sleeps. Returns how many
+/// posts were accepted.
+fn post_to_a_sleeper<H: Clock + Wait>(rt: &H, end: PostEnd<Sums>) -> usize {
+    let mut end = end;
+    rest(rt);
+    let aloud = post_many(rt, &mut end, 1);
+    rest(rt);
+    let quiet = post_many_quietly(rt, &mut end, 33);
+    rest(rt);
+    let last = post_many_quietly(rt, &mut end, 1);
+    end.wake();
+    rest(rt);
+    aloud.saturating_add(quiet).saturating_add(last)
+}
+
+/// Takes posts until none comes, and counts them in `taken`.
+fn carry_all<H: Wait>(rt: &H, end: &mut PorterEnd<SumsKey>, taken: &AtomicUsize) {
+    for _ in 0..u64::MAX {
+        if end.next(rt).is_none() {
+            return;
+        }
+        let _ = taken.fetch_add(1, Ordering::SeqCst);
+    }
+}
+
+// A thread that waits for a post is woken by a post, by the first quiet post that has no room, by a
+// wake, and by the end of the posts.
+#[test]
+fn a_sleeper_is_woken(rt: HostRuntime) {
+    let (post, mut porter) = inbox(rt.alloc(), Sums).expect(&rt, "memory");
+    let taken = AtomicUsize::new(0);
+    let (posted, _) = thread::join(
+        &rt,
+        move || post_to_a_sleeper(&rt, post),
+        || carry_all(&rt, &mut porter, &taken),
+    );
+    check_number(&rt, posted, 35, "posted");
+    check_number(&rt, taken.load(Ordering::SeqCst), 35, "taken");
+}
+
+/// The turns for which a thread looks without a rest whether its post was taken.
+const TURNS: u32 = 100_000;
+
+/// The rests after which a post counts as missed: ten seconds.
+const RESTS: u32 = 100_000;
+
+/// Looks until `taken` counts `count` posts, without a rest at first: so the next post comes while the
+/// other thread goes to sleep. Returns whether it did in time.
+fn is_taken(rt: &impl Clock, taken: &AtomicUsize, count: usize) -> bool {
+    for _ in 0..TURNS {
+        if taken.load(Ordering::SeqCst) == count {
+            return true;
+        }
+    }
+    for _ in 0..RESTS {
+        if taken.load(Ordering::SeqCst) == count {
+            return true;
+        }
+        thread::sleep(rt, Duration::from_micros(100));
+    }
+    false
+}
+
+/// Posts `count` ends, each as soon as the one before it was taken, and gives the end up. Returns how
+/// many were taken in time.
+fn post_in_turn<H: Clock + Wait>(
+    rt: &H,
+    end: PostEnd<Sums>,
+    taken: &AtomicUsize,
+    count: usize,
+) -> usize {
+    let mut end = end;
+    for posted in 0..count {
+        if end.post(rt, Post::End).is_err() {
+            return posted;
+        }
+        if !is_taken(rt, taken, posted.saturating_add(1)) {
+            return posted;
+        }
+    }
+    count
+}
+
+// Each post comes just as the thread that takes posts looks once more and goes to sleep. None is missed.
+#[test]
+fn no_post_is_missed(rt: HostRuntime) {
+    let (post, mut porter) = inbox(rt.alloc(), Sums).expect(&rt, "memory");
+    let taken = AtomicUsize::new(0);
+    let (posted, _) = thread::join(
+        &rt,
+        || post_in_turn(&rt, post, &taken, 1000),
+        || carry_all(&rt, &mut porter, &taken),
+    );
+    check_number(&rt, posted, 1000, "taken in time");
 }
