@@ -1,5 +1,6 @@
-;; The steps with lsp-mode, after the lines of docs/EDITORS.md and steps.el. Diagnostics are shown by flycheck. Version 8 shows those of
-;; the buffer in which the user is, so each step ends with a wait and a change to a.proto. It asks for the root: here is the answer.
+;; The steps with lsp-mode, after the lines of docs/EDITORS.md and steps.el. Diagnostics are shown by
+;; flycheck. Version 8 shows those of the buffer in which the user is, so each step ends with a wait
+;; and a change to a.proto. It asks for the root: here is the answer.
 (require 'flycheck)
 
 (defun of-flycheck (it)

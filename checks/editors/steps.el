@@ -1,6 +1,7 @@
-;; The steps in emacs, for eglot.el and lsp_mode.el: `emacs -nw -q -l LINES -l steps.el -l ..`, with LINES those of docs/EDITORS.md.
-;; The folder PLACE of the environment has `steps`, and a.proto and b.proto below `work`; the file `shown` gets a line for each step.
-;; Both clients show diagnostics by flymake.
+;; The steps in emacs, for eglot.el and lsp_mode.el: `emacs -nw -q -l LINES -l steps.el -l ..`, with
+;; LINES those of docs/EDITORS.md. The folder PLACE of the environment has `steps`, and a.proto and
+;; b.proto below `work`; the file `shown` gets a line for each step. Both clients show diagnostics by
+;; flymake.
 (require 'json)
 (require 'flymake)
 

@@ -308,8 +308,8 @@ fn no_post_is_missed(rt: HostRuntime) {
     let taken = AtomicUsize::new(0);
     let (posted, _) = thread::join(
         &rt,
-        || post_in_turn(&rt, post, &taken, 1000),
+        || post_in_turn(&rt, post, &taken, 5000),
         || carry_all(&rt, &mut porter, &taken),
     );
-    check_number(&rt, posted, 1000, "taken in time");
+    check_number(&rt, posted, 5000, "taken in time");
 }
