@@ -147,13 +147,14 @@ fn replies_made_at_once(rt: HostRuntime) {
     );
 }
 
-// A run goes on after the most steps that a worker takes in one hold of the lock: after an edit it
-// goes down a chain of 24 files, each of which imports the next.
+// A run goes on after the most steps that a worker takes in one hold of the lock, and after those that a
+// porter takes while a worker waits: after an edit it goes down a chain of 24 files, each of which
+// imports the next.
 #[test]
 fn runs_of_many_steps(rt: HostRuntime) {
     check_both(
         &rt,
-        35,
+        36,
         "\
         edit 0 a.proto=syntax = \"proto3\"; import \"b.proto\"; => 0\n\
         edit 0 b.proto=syntax = \"proto3\"; import \"c.proto\"; => 0\n\
@@ -184,6 +185,7 @@ fn runs_of_many_steps(rt: HostRuntime) {
         take 0 - => 0 at 23 answered\n\
         edit 0 x.proto=syntax = \"proto3\"; => 1\n\
         carry 0 - => edited 24\n\
+        rest 0 => rested\n\
         asks 0 2 a.proto => 2\n\
         asks 1 2 a.proto => 1\n\
         carries 0 2 => accepted 2\n\

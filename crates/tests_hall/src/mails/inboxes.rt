@@ -1,5 +1,5 @@
 //! Inboxes: posts, receipts, and what is carried.
-use crate::checks::{check_number, check_page, check_row_count, split_row};
+use crate::checks::{check_number, check_page, check_row_count, check_that, split_row};
 use crate::lines::{add_label, add_request, change_of, label_of, request_of};
 use pq_mail::{PorterEnd, Post, PostEnd, PostFault, PostRefused, Receipt, inbox};
 use pq_rules::{Sums, SumsKey};
@@ -7,7 +7,7 @@ use std::process::Abort;
 use std::sync::Wait;
 use std::sync::atomic::{AtomicUsize, Ordering};
 use std::thread;
-use std::time::{Clock, Duration};
+use std::time::{Clock, Duration, Instant};
 use test_support::Page;
 
 /// The two ends of an inbox; each is there until it is given up.
@@ -198,41 +198,6 @@ fn posts_wait_for_room(rt: HostRuntime) {
     check_number(&rt, carried, 1000, "carried");
 }
 
-/// The milliseconds for which a thread rests, so that the other one sleeps.
-const REST: u64 = 20;
-
-/// Rests, so that the thread that takes posts sleeps.
-fn rest(rt: &impl Clock) {
-    thread::sleep(rt, Duration::from_millis(REST));
-}
-
-/// Posts `count` ends quietly, and returns how many were accepted.
-fn post_many_quietly<H: Wait>(rt: &H, end: &mut PostEnd<Sums>, count: usize) -> usize {
-    let mut posted = 0usize;
-    for _ in 0..count {
-        if end.post_quietly(rt, Post::End).is_ok() {
-            posted = posted.saturating_add(1);
-        }
-    }
-    posted
-}
-
-/// Posts to a thread that sleeps before each of these: one post; 33 quiet ones, of which the last has no
-/// room; a quiet one, and a wake after it. Gives the end up while that thread sleeps. Returns how many
-/// posts were accepted.
-fn post_to_a_sleeper<H: Clock + Wait>(rt: &H, end: PostEnd<Sums>) -> usize {
-    let mut end = end;
-    rest(rt);
-    let aloud = post_many(rt, &mut end, 1);
-    rest(rt);
-    let quiet = post_many_quietly(rt, &mut end, 33);
-    rest(rt);
-    let last = post_many_quietly(rt, &mut end, 1);
-    end.wake();
-    rest(rt);
-    aloud.saturating_add(quiet).saturating_add(last)
-}
-
 /// Takes posts until none comes, and counts them in `taken`.
 fn carry_all<H: Wait>(rt: &H, end: &mut PorterEnd<SumsKey>, taken: &AtomicUsize) {
     for _ in 0..u64::MAX {
@@ -241,21 +206,6 @@ fn carry_all<H: Wait>(rt: &H, end: &mut PorterEnd<SumsKey>, taken: &AtomicUsize)
         }
         let _ = taken.fetch_add(1, Ordering::SeqCst);
     }
-}
-
-// A thread that waits for a post is woken by a post, by the first quiet post that has no room, by a
-// wake, and by the end of the posts.
-#[test]
-fn a_sleeper_is_woken(rt: HostRuntime) {
-    let (post, mut porter) = inbox(rt.alloc(), Sums).expect(&rt, "memory");
-    let taken = AtomicUsize::new(0);
-    let (posted, _) = thread::join(
-        &rt,
-        move || post_to_a_sleeper(&rt, post),
-        || carry_all(&rt, &mut porter, &taken),
-    );
-    check_number(&rt, posted, 35, "posted");
-    check_number(&rt, taken.load(Ordering::SeqCst), 35, "taken");
 }
 
 /// The turns for which a thread looks without a rest whether its post was taken.
@@ -281,24 +231,96 @@ fn is_taken(rt: &impl Clock, taken: &AtomicUsize, count: usize) -> bool {
     false
 }
 
-/// Posts `count` ends, each as soon as the one before it was taken, and gives the end up. Returns how
-/// many were taken in time.
+/// The milliseconds for which a thread rests, so that the other one sleeps.
+const REST: u64 = 20;
+
+/// Rests, so that the thread that takes posts sleeps.
+fn rest(rt: &impl Clock) {
+    thread::sleep(rt, Duration::from_millis(REST));
+}
+
+/// Posts `count` ends quietly, and returns whether all were accepted.
+fn post_quietly<H: Wait>(rt: &H, end: &mut PostEnd<Sums>, count: usize) -> bool {
+    for _ in 0..count {
+        if end.post_quietly(rt, Post::End).is_err() {
+            return false;
+        }
+    }
+    true
+}
+
+/// Posts to a thread that sleeps before each of these: a post; 33 quiet ones, of which the last has no
+/// room; a quiet one with a wake after it. Gives the end up while that thread sleeps. Returns whether
+/// each was taken in time.
+fn post_to_a_sleeper<H: Clock + Wait>(rt: &H, end: PostEnd<Sums>, taken: &AtomicUsize) -> bool {
+    let mut end = end;
+    rest(rt);
+    if end.post(rt, Post::End).is_err() || !is_taken(rt, taken, 1) {
+        return false;
+    }
+    rest(rt);
+    if !post_quietly(rt, &mut end, 33) || !is_taken(rt, taken, 34) {
+        return false;
+    }
+    rest(rt);
+    let is_accepted = post_quietly(rt, &mut end, 1);
+    end.wake();
+    if !is_accepted || !is_taken(rt, taken, 35) {
+        return false;
+    }
+    rest(rt);
+    true
+}
+
+// A thread that waits for a post is woken by a post, by the first quiet post that has no room, by a
+// wake, and by the end of the posts.
+#[test]
+fn a_sleeper_is_woken(rt: HostRuntime) {
+    let (post, mut porter) = inbox(rt.alloc(), Sums).expect(&rt, "memory");
+    let taken = AtomicUsize::new(0);
+    let (are_taken, _) = thread::join(
+        &rt,
+        || post_to_a_sleeper(&rt, post, &taken),
+        || carry_all(&rt, &mut porter, &taken),
+    );
+    check_that(&rt, are_taken, "a post woke nobody");
+}
+
+/// The most seconds for which posts are made in turn. A round that misses a post is rare.
+const SECONDS: u64 = 3;
+
+/// Whether the time since `start` is over, or cannot be told.
+fn is_over(rt: &impl Clock, start: Instant) -> bool {
+    match Instant::now(rt) {
+        Ok(now) => now.duration_since(start) >= Duration::from_secs(SECONDS),
+        Err(_) => true,
+    }
+}
+
+/// Posts ends, each as soon as the one before it was taken, at most `count`, and gives the end up.
+/// Returns whether each was taken in time.
 fn post_in_turn<H: Clock + Wait>(
     rt: &H,
     end: PostEnd<Sums>,
     taken: &AtomicUsize,
     count: usize,
-) -> usize {
+) -> bool {
     let mut end = end;
+    let Ok(start) = Instant::now(rt) else {
+        return false;
+    };
     for posted in 0..count {
         if end.post(rt, Post::End).is_err() {
-            return posted;
+            return false;
         }
         if !is_taken(rt, taken, posted.saturating_add(1)) {
-            return posted;
+            return false;
+        }
+        if is_over(rt, start) {
+            return true;
         }
     }
-    count
+    true
 }
 
 // Each post comes just as the thread that takes posts looks once more and goes to sleep. None is missed.
@@ -306,10 +328,10 @@ fn post_in_turn<H: Clock + Wait>(
 fn no_post_is_missed(rt: HostRuntime) {
     let (post, mut porter) = inbox(rt.alloc(), Sums).expect(&rt, "memory");
     let taken = AtomicUsize::new(0);
-    let (posted, _) = thread::join(
+    let (are_taken, _) = thread::join(
         &rt,
-        || post_in_turn(&rt, post, &taken, 5000),
+        || post_in_turn(&rt, post, &taken, 200_000),
         || carry_all(&rt, &mut porter, &taken),
     );
-    check_number(&rt, posted, 5000, "taken in time");
+    check_that(&rt, are_taken, "a post was missed");
 }
