@@ -141,8 +141,10 @@ def late_reader(place):
     client.send(b"".join(diagnosed(label, ("a.proto", "long.proto")[label % 2]) for label in range(LATE)))
     client.socket.shutdown(socket.SHUT_WR)
     # The writer of the session waits for room then, and the outbox and the window are full.
-    before = -1
-    while (held := bytes_held(client.socket)) != before:
+    start, before = time.monotonic(), 0
+    while (held := bytes_held(client.socket)) == 0 or held != before:
+        if seconds_since(start) > LONGEST / 2:
+            raise Failed("what comes to a client that reads nothing did not come to a stop")
         before = held
         time.sleep(QUIET)
     for label in range(LATE):
