@@ -38,3 +38,11 @@ pub mod NodeSpans
 pub mod StackSteps
 pub mod Walk
 pub mod TypesInOrder
+pub mod LooseWords
+pub mod Blanks
+pub mod Seen
+pub mod FirstFeed
+pub mod LexedOn
+pub mod Showing
+pub mod OneShown
+pub mod SpannedNodes

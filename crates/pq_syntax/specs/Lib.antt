@@ -9,4 +9,5 @@ pub mod Spans
 pub mod Places
 pub mod Stacks
 pub mod TypeSpans
+pub mod Loose
 pub mod aux

@@ -10,3 +10,4 @@ pub mod Steps
 pub mod Openings
 pub mod TypesRise
 pub mod SameNodes
+pub mod Loosely

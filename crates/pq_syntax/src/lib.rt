@@ -14,6 +14,7 @@ mod failure;
 mod fault;
 mod file;
 mod laws;
+mod loose;
 mod parser;
 mod parts;
 mod stack;
@@ -24,6 +25,7 @@ pub use answer::parse;
 pub use fault::{Code, Parsed};
 pub use file::File;
 pub use laws::{each_parse, equal_parses, equal_trees, one_fault, one_tree, spans_within};
+pub use loose::{each_shown, is_other_version, one_shown, read_loosely};
 pub use parts::{
     Constant, ConstantKind, Items, MethodType, Name, NamePart, Number, Range, RangeEnd, Setting,
     Strings,

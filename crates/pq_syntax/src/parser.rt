@@ -33,3 +33,4 @@ mod texts;
 mod tokens;
 
 pub(crate) use files::parse_file;
+pub(crate) use texts::{across, read_name, read_strings};

@@ -5,6 +5,7 @@ mod equality;
 mod faults;
 mod keywords;
 mod limits;
+mod loose;
 mod places;
 mod shown;
 mod trees;

@@ -253,7 +253,7 @@ fn add_node(page: &mut Page, node: &Node) {
 }
 
 /// Writes nodes, a line for each.
-fn add_nodes(page: &mut Page, nodes: &[Node]) {
+pub(super) fn add_nodes(page: &mut Page, nodes: &[Node]) {
     for node in nodes {
         add_node(page, node);
     }

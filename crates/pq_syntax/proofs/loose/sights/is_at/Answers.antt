@@ -1,0 +1,10 @@
+use Rattle.std.proofs.Common.{sym, ◌∙◌}
+use Rattle.pq_syntax.specs.Words.{accepts}
+use Rattle.pq_syntax.proofs.LooseWords.{at_word, no_less}
+use Rattle.pq_syntax.proofs.loose.sights.is_at.Goals as goal
+
+pub returns-then-at-tokens-clause-is : goal.returns-then-at-tokens-clause-is
+returns-then-at-tokens-clause-is c = c.accepts.ensures ∙ sym (at_word (accepts c.args.terminal) c.args.text.now c.args.at c.args.tokens.now _ c.if-at-tokens.true)
+
+pub returns-else-at-tokens-clause-is : goal.returns-else-at-tokens-clause-is
+returns-else-at-tokens-clause-is c = no_less (accepts c.args.terminal) c.args.text.now c.args.at c.args.tokens.now c.if-at-tokens.false
