@@ -1,0 +1,9 @@
+pub mod BelowRoots
+pub mod Placing
+pub mod ListTests
+pub mod Untouched
+pub mod TouchedNames
+pub mod Editing
+pub mod Changes
+pub mod KnownNames
+pub mod LeadingBack

@@ -1,0 +1,4 @@
+pub mod Views
+pub mod Held
+pub mod Edits
+pub mod aux

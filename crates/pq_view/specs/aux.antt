@@ -1,0 +1,5 @@
+-- Auxiliary: nothing below this module has to be believed (used by proofs and invariants only).
+pub mod Rests
+pub mod Sights
+pub mod Touched
+pub mod Known

@@ -1,0 +1,31 @@
+//! Which text each file has for one editor: that of the open document, else that on the disk.
+//!
+//! Files are found below root folders, in their order, as with the option `-I` of `protoc`. The
+//! names of a file are what is left of its path below the roots. The sources are the texts by name:
+//! of the first root below which there is a file of that name. A document that is the file of none
+//! of its names is a source by its path. The definitions are in `specs/Views`.
+//!
+//! A change of a document, of the disk or of the roots gives the edits of the sources that follow
+//! from it: `AreEdits` of `specs/Edits`. With R roots and N paths a question takes at most R^2
+//! look-ups of log N comparisons, a change at one path at most R^4, and no walk over all files. New
+//! roots take a walk.
+//!
+//! Modules: `names` (names below roots), `sight` (the questions, also of a view after a change),
+//! `touched` and `known` (the names that a change can touch), `edits` (the edits of names), `view`,
+//! `laws`.
+#![tactic(auto)]
+
+mod edits;
+mod known;
+mod laws;
+mod names;
+mod sight;
+#[cfg(test)]
+mod tests;
+mod touched;
+mod view;
+
+pub use edits::Edit;
+pub use laws::names_lead_back;
+pub use pq_names::{Memory, Text};
+pub use view::View;
