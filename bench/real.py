@@ -5,11 +5,11 @@ A set is a folder below FOLDER, from which the imports of its files are written.
 for the diagnostics of each. Printed are, for each set and for all, the files, their bytes, the instructions that callgrind
 counts, without those of a session without files, and the instructions a byte. With `--parser PATH`, the program of
 parsing.rt.txt, the same of parsing all files. With `--replies FILE` the replies of all sessions are written there, to be
-compared with those of another program.
+compared with those of another program. With `--loose` the program gets this word, by which files with an error have definitions.
 
 Needed: valgrind. The files are not in the repository; the results name those that were measured.
 
-usage: bench/real.py --files FOLDER [--program PATH] [--parser PATH] [--replies FILE]
+usage: bench/real.py --files FOLDER [--program PATH] [--parser PATH] [--replies FILE] [--loose]
 """
 import argparse
 import os
@@ -17,23 +17,10 @@ import subprocess
 import tempfile
 
 import parts
-from shared import FIRST, LAST, asked, METHODS, opened
+from shared import FIRST, LAST, asked, METHODS, opened, texts_in
 
 HERE = os.path.dirname(os.path.abspath(__file__))
 PROGRAM = os.path.join(HERE, "..", "crates", "pq_server", "out", "pq_server")
-
-
-def texts_in(folder):
-    """The texts of the .proto files below the folder, by the names by which they are imported."""
-    found = {}
-    for at, folders, names in os.walk(folder):
-        folders.sort()
-        for name in sorted(names):
-            if name.endswith(".proto"):
-                path = os.path.join(at, name)
-                with open(path, encoding="utf-8") as source:
-                    found[os.path.relpath(path, folder)] = source.read()
-    return found
 
 
 def session(path, texts):
@@ -44,9 +31,9 @@ def session(path, texts):
         sink.write(FIRST + opens + asks + LAST)
 
 
-def counted(program, path):
+def counted(command, path):
     with open(path, "rb") as source:
-        return parts.instructions([program, "script"], source)
+        return parts.instructions(command, source)
 
 
 def parsed(parser, files):
@@ -61,21 +48,23 @@ def main():
     words.add_argument("--program", default=PROGRAM)
     words.add_argument("--parser", help="the program of bench/parsing.rt.txt, built before")
     words.add_argument("--replies", help="a file for the replies of all sessions")
+    words.add_argument("--loose", action="store_true", help="the word of the program")
     words = words.parse_args()
+    command = [words.program, "script", *["--loose"] * words.loose]
     count = size = total = 0
     paths, said = [], []
     with tempfile.TemporaryDirectory() as room:
         path = os.path.join(room, "session")
         session(path, {})
-        start = counted(words.program, path)
+        start = counted(command, path)
         for name in sorted(os.listdir(words.files)):
             texts = texts_in(os.path.join(words.files, name))
             paths += [os.path.join(words.files, name, text) for text in texts]
             session(path, texts)
             if words.replies:
                 with open(path, "rb") as source:
-                    said.append(subprocess.run([words.program, "script"], stdin=source, stdout=subprocess.PIPE, check=True).stdout)
-            taken, bytes_of_set = counted(words.program, path) - start, sum(len(text.encode()) for text in texts.values())
+                    said.append(subprocess.run(command, stdin=source, stdout=subprocess.PIPE, check=True).stdout)
+            taken, bytes_of_set = counted(command, path) - start, sum(len(text.encode()) for text in texts.values())
             print("%-12s %4d files, %8d bytes: %6.1f million instructions, %4.0f a byte"
                   % (name, len(texts), bytes_of_set, taken / 1e6, taken / bytes_of_set), flush=True)
             count, size, total = count + len(texts), size + bytes_of_set, total + taken

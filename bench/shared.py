@@ -1,4 +1,4 @@
-"""What the benches share with the checks: the messages of a client, as checks/messages.py makes them.
+"""What the benches share with the checks: the messages of a client (checks/messages.py), and the texts of files (checks/texts.py).
 
 This is the one script of bench/ that finds checks/; the others import from here.
 """
@@ -9,3 +9,4 @@ sys.path.append(os.path.join(os.path.dirname(os.path.dirname(os.path.abspath(__f
 
 from messages import (FIRST, LAST, METHODS, asked, bodies_of, changed, diagnosed, frame, is_request, notice, opened,
                       read_body, withdrawn)
+from texts import texts_in

@@ -10,9 +10,9 @@ changed, one that is new is opened, and one that the row does not have is remove
 
 With no option the two files are written. With --check the status is 1 if they are not what the rows make. With --run the
 program is run on the session, by `listen` with --listen, and with --compare a file of output is looked at: the first row whose
-reply differs is named.
+reply differs is named. With --loose these take the rows of cases/loose, and the program gets that word. They are in no file.
 
-usage: checks/cases.py [--check | --run PROGRAM | --listen PROGRAM | --compare OUTPUT] [--top FOLDER]
+usage: checks/cases.py [--check | [--loose] --run PROGRAM | [--loose] --listen PROGRAM | [--loose] --compare OUTPUT] [--top FOLDER]
 """
 import argparse
 import json
@@ -99,14 +99,14 @@ class Session:
         self.wanted.append((row.place, frame(body)))
 
 
-def made(top):
-    """The session that the rows make."""
+def made(top, is_loose=False):
+    """The session that the rows of cases/loose make, or all others."""
     requests = bodies_of(read(os.path.join(top, FIRST + ".in")))
     answers = bodies_of(read(os.path.join(top, FIRST + ".out")))
     session = Session()
     session.begin(FIRST + ".in", requests[:-2])
     session.want(FIRST + ".out", answers[:-1])
-    for row in rows.read_rows(top):
+    for row in rows.read_rows(top, is_loose):
         session.ask(row)
     # The last two requests are `shutdown` and `exit`, of which the first has a reply.
     session.begin(FIRST + ".in", requests[-2:])
@@ -211,10 +211,10 @@ def compare(session, output):
     return 0
 
 
-def run(program, session):
-    """Runs a program on the session, and compares; the status."""
+def run(program, session, *words):
+    """Runs a program with these further words on the session, and compares; the status."""
     try:
-        done = subprocess.run([program, "script"], input=joined(session.sent), stdout=subprocess.PIPE)
+        done = subprocess.run([program, "script", *words], input=joined(session.sent), stdout=subprocess.PIPE)
     except OSError as error:
         sys.exit("checks/cases.py: %s cannot be run: %s" % (program, error.strerror))
     status = compare(session, done.stdout)
@@ -223,11 +223,11 @@ def run(program, session):
     return status or int(done.returncode != 0)
 
 
-def run_listen(program, session):
-    """Runs the session over a connection to a program that listens, and compares; the status."""
+def run_listen(program, session, *words):
+    """Runs the session over a connection to a program that listens, with these further words, and compares; the status."""
     sys.path.append(os.path.join(HERE, "..", "bench"))
     from clients import Connection, Server
-    server = Server(program, 2, "--sessions", "1")
+    server = Server(program, 2, "--sessions", "1", *words)
     found = Connection(server.port).answers(joined(session.sent), 60)
     status = compare(session, b"".join(map(frame, found)))
     ended = server.ended()
@@ -264,19 +264,23 @@ def main():
     choice.add_argument("--run", metavar="PROGRAM", help="run a program on the session, and name the first row that differs")
     choice.add_argument("--listen", metavar="PROGRAM", help="the same by `listen`, over a connection")
     choice.add_argument("--compare", metavar="OUTPUT", help="the same over a file of output")
+    words.add_argument("--loose", action="store_true", help="with one of these three: the rows of cases/loose, by this word of the program")
     words.add_argument("--top", default=os.path.join(HERE, ".."), help="the top of the repository")
     words = words.parse_args()
+    more = ["--loose"] * words.loose
     try:
-        session = made(words.top)
+        session = made(words.top, words.loose)
     except rows.Refused as error:
         print("checks/cases.py: %s" % error)
         return 1
     if words.run:
-        return run(words.run, session)
+        return run(words.run, session, *more)
     if words.listen:
-        return run_listen(words.listen, session)
+        return run_listen(words.listen, session, *more)
     if words.compare:
         return compare(session, read(words.compare))
+    if words.loose:
+        sys.exit("checks/cases.py: the rows of cases/loose are in no stored session")
     return check_all(words.top, session) if words.check else write_all(words.top, session)
 
 

@@ -16,6 +16,8 @@ Row = collections.namedtuple("Row", "place label written query files file positi
 # The head of a table: FILE:LINE, its file, its name, what its rows ask and of what, and how many they are.
 Head = collections.namedtuple("Head", "place path name query form count")
 
+# The rows that are asked of a program with --loose, and those of session_cases.py.
+LOOSE, SESSIONS = "cases/loose/", "cases/sessions/"
 SYNTAX_LINE = 'syntax = "proto3";\n'
 ALONE = "a.proto"
 HEAD = re.compile(r"== (\w+): (\w+) of ([a-z ]+): (\d+) rows?")
@@ -191,17 +193,17 @@ def read_text(path, text):
     return rows
 
 
-def paths(top):
-    """The files of rows below cases/, in the order of their names. Those of cases/sessions are of session_cases.py."""
+def paths(top, is_loose):
+    """The files of rows below cases/, in the order of their names: those of cases/loose, or the others."""
     found = [os.path.relpath(os.path.join(folder, name), top).replace(os.sep, "/")
              for folder, _, names in os.walk(os.path.join(top, "cases")) for name in names if name.endswith(".txt")]
-    return sorted(path for path in found if not path.startswith("cases/sessions/"))
+    return sorted(path for path in found if path.startswith(LOOSE) == is_loose and not path.startswith(SESSIONS))
 
 
-def read_rows(top):
-    """All rows, file by file."""
+def read_rows(top, is_loose):
+    """All rows of cases/loose, or all others, file by file."""
     rows = []
-    for path in paths(top):
+    for path in paths(top, is_loose):
         with open(os.path.join(top, path), "rb") as it:
             data = it.read()
         try:

@@ -1,9 +1,9 @@
 #!/usr/bin/env python3
 """Rows for `pq_server stdio`: each starts the program as an editor does, sends messages, and compares what comes.
 
-What is right of diagnostics is what a new session of `pq_server script` of the same program says of the same texts; but P104 and
-P150 have the severity 3 in a file that has P104. Waits end when what is waited for has come, so a slow machine makes no row fail.
-That nothing more comes is taken for shown after 0.4 seconds without a message.
+What is right of diagnostics is what a new session of `pq_server script --loose` of the same program says of the same texts; but
+P104 is not shown, and P150 has the severity 3 beside it. Waits end when what is waited for has come, so a slow machine makes no row
+fail. That nothing more comes is taken for shown after 0.4 seconds without a message.
 
 Printed are, for each row, whether it holds, its sentence and its seconds. The status is 1 if a row does not hold.
 
@@ -15,10 +15,11 @@ import stdio_editors
 import stdio_ends
 import stdio_files
 import stdio_lists
+import stdio_loose
 import stdio_random
 from server_rows import run
 
-MODULES = (stdio_lists, stdio_files, stdio_editors, stdio_ends, stdio_random)
+MODULES = (stdio_lists, stdio_loose, stdio_files, stdio_editors, stdio_ends, stdio_random)
 
 if __name__ == "__main__":
     sys.exit(run(MODULES))

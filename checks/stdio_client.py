@@ -1,4 +1,4 @@
-"""An editor at `pq_server stdio`: what it sends, what it was sent, and what is right by `pq_server script`."""
+"""An editor at `pq_server stdio`: what it sends, what it was sent, and what is right by `pq_server script --loose`."""
 import fcntl
 import json
 import os
@@ -15,9 +15,10 @@ PULL = "textDocument/diagnostic"
 PUSH = "textDocument/publishDiagnostics"
 CONTENT_MODIFIED = -32801
 REQUEST_CANCELLED = -32800
-# The codes that are shown with less weight in a file of which an import is not read, and their severity there.
-MAY_FOLLOW = ("P104", "P150")
-INFORMATION = 3
+# The word by which `script` and `listen` read the files that `stdio` reads.
+LOOSE = "--loose"
+# An import of a file with an error is not shown. The names that may be defined there have the other severity then.
+FAULTY_IMPORT, UNKNOWN_TYPE, INFORMATION = "P104", "P150", 3
 # How long it is quiet before no further message is expected, in seconds.
 QUIET = 0.4
 # The bytes of a pipe that is as good as full.
@@ -209,11 +210,15 @@ def codes(items):
     return [it["code"] for it in items]
 
 
+def severities(items):
+    return [(it["code"], it["severity"]) for it in items]
+
+
 def softened(items):
     """A list of diagnostics as `stdio` shows it."""
-    if "P104" not in codes(items):
+    if FAULTY_IMPORT not in codes(items):
         return items
-    return [dict(it, severity=INFORMATION) if it["code"] in MAY_FOLLOW else it for it in items]
+    return [dict(it, severity=INFORMATION) if it["code"] == UNKNOWN_TYPE else it for it in items if it["code"] != FAULTY_IMPORT]
 
 
 def message(method, name, label=None, **more):
@@ -228,13 +233,14 @@ def turned(before, after):
     return sent + [message("proto/removeFile", name) for name in sorted(before) if name not in after]
 
 
-def history(program, states):
-    """The diagnostics of each file in each of the states, by one session of `script`. A state has the text of each name."""
+def history(program, states, *words):
+    """The diagnostics of each file in each of the states, by one session of `script` with these words. A state has the text of each
+    name."""
     sent, before = [frame({"jsonrpc": "2.0", "id": "first", "method": "initialize", "params": {}})], {}
     for number, after in enumerate(states):
         sent += turned(before, after) + [message(PULL, name, "%d %s" % (number, name)) for name in sorted(after)]
         before = after
-    done = subprocess.run([program, "script"], input=b"".join(sent), capture_output=True, timeout=LONGEST)
+    done = subprocess.run([program, "script", *words], input=b"".join(sent), capture_output=True, timeout=LONGEST)
     found = [{} for _ in states]
     for body in bodies_of(done.stdout)[1:]:
         reply = json.loads(body)
@@ -243,21 +249,21 @@ def history(program, states):
     return found
 
 
-def scripted(program, files):
-    """The diagnostics of each file by a new session of `script`. `files` has the text of each name."""
-    return history(program, [files])[0]
+def scripted(program, files, *words):
+    """The diagnostics of each file by a new session of `script` with these words. `files` has the text of each name."""
+    return history(program, [files], *words)[0]
 
 
 def shown_by_rights(program, files):
     """The list of each file, as `stdio` has to show it."""
-    return {name: softened(items) for name, items in scripted(program, files).items()}
+    return {name: softened(items) for name, items in scripted(program, files, LOOSE).items()}
 
 
 def check_versions(program, editor, folder, states):
     """Each list that came with a version is right of some state in which its document had that version.
 
     A state is a pair: the text of each file, and the version of each document, by their names below the folder."""
-    right = history(program, [texts for texts, _ in states])
+    right = history(program, [texts for texts, _ in states], LOOSE)
     for name in sorted({name for _, versions in states for name in versions}):
         for pushed in editor.lists(os.path.join(folder, name)):
             if "version" not in pushed:

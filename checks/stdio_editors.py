@@ -9,7 +9,7 @@ import subprocess
 
 from messages import bodies_of, frame
 from server_process import LONGEST, check
-from stdio_client import PULL, Editor, softened
+from stdio_client import LOOSE, PULL, Editor, softened
 
 FOLDER = os.path.join(os.path.dirname(os.path.realpath(__file__)), "transcripts")
 
@@ -33,10 +33,10 @@ def written(name):
 
 
 def by_script(program, frames, uris):
-    """What `script` answers at the end of these frames for each of the documents, as `stdio` shows it."""
+    """What `script --loose` answers at the end of these frames for each of the documents, as `stdio` shows it."""
     asked = [{"jsonrpc": "2.0", "id": uri, "method": PULL, "params": {"textDocument": {"uri": uri}}} for uri in uris]
     sent = b"".join(frames + [frame(body) for body in asked])
-    done = subprocess.run([program, "script"], input=sent, capture_output=True, timeout=LONGEST)
+    done = subprocess.run([program, "script", LOOSE], input=sent, capture_output=True, timeout=LONGEST)
     replies = {body.get("id"): body for body in map(json.loads, bodies_of(done.stdout))}
     return {uri: softened(replies[uri]["result"]["items"]) for uri in uris}
 
@@ -59,7 +59,7 @@ def played(place, name, has_root=True):
 
 
 def as_eglot_wrote(place):
-    """What eglot 1.9 wrote: at the end each document is shown with the list that `script` gives after the same messages."""
+    """What eglot 1.9 wrote: at the end each document is shown with the list that `script --loose` gives after the same messages."""
     played(place, "eglot-1.9.in")
 
 

@@ -7,7 +7,8 @@ import time
 from listen_client import Listener
 from messages import frame
 from server_process import LONGEST, Failed, check, uri_of, write
-from stdio_client import CONTENT_MODIFIED, PULL, REQUEST_CANCELLED, Editor, check_versions, codes, scripted, shown_by_rights
+from stdio_client import (CONTENT_MODIFIED, LOOSE, PULL, REQUEST_CANCELLED, Editor, check_versions, codes, scripted, severities,
+                          shown_by_rights)
 
 HEAD = 'syntax = "proto3";\n'
 GOOD = HEAD + "message M { int32 x = 1; }\n"
@@ -159,7 +160,7 @@ def pulls_only(place):
 
 
 def pulled_reports(place):
-    """A report that was asked for has the items of `script`, also in a session that gets lists."""
+    """A report that was asked for has the items of a list, also in a session that gets lists."""
     files = {"a.proto": BAD, "b.proto": HEAD + 'import "a.proto";\nimport "c.proto";\n', "c.proto": HEAD + "message {"}
     wanted = shown_by_rights(place.program, files)
     for capabilities in ({}, PULLS):
@@ -197,34 +198,40 @@ def overtaken(place):
 
 
 def weaker_severities(place):
-    """In a file that imports a file with a syntax error P104 and P150 have the severity 3, and other errors keep theirs."""
+    """Beside an import of a file with a syntax error P150 has the severity 3, P104 is not shown, and other errors are shown as ever."""
     user = HEAD + 'import "bad.proto";\nmessage M { Other o = 1; int32 x = 0; }\n'
-    files = {"bad.proto": 'syntax = "proto2";\n', "user.proto": user, "other.proto": HEAD + "message M { Nowhere n = 1; }\n"}
+    files = {"bad.proto": HEAD + "message {", "user.proto": user, "other.proto": HEAD + "message M { Nowhere n = 1; }\n"}
     editor = begun(place)
     for name, text in files.items():
         editor.open(at(place, name), text)
-    editor.expect_codes(at(place, "user.proto"), "P104 P150 P120", "the user")
-    for name, wanted in (("user.proto", [3, 3, 1]), ("other.proto", [1])):
-        editor.wait_for(lambda: [it["severity"] for it in editor.shown(at(place, name))] == wanted, "the severities of " + name)
-        check([it["severity"] for it in editor.pull(at(place, name))], wanted, "the severities of %s, asked for" % name)
-    editor.change(at(place, "bad.proto"), HEAD + "message Other {}\n")
-    editor.expect_codes(at(place, "user.proto"), "P120", "once the import is read")
-    editor.change(at(place, "bad.proto"), HEAD)
-    editor.wait_for(lambda: [it["severity"] for it in editor.shown(at(place, "user.proto"))] == [1, 1], "P150 without P104")
+    for name, wanted in (("user.proto", [("P150", 3), ("P120", 1)]), ("other.proto", [("P150", 1)])):
+        editor.wait_for(lambda: severities(editor.shown(at(place, name))) == wanted, "the severities of " + name)
+        check(severities(editor.pull(at(place, name))), wanted, "the severities of %s, asked for" % name)
+    editor.change(at(place, "bad.proto"), HEAD + "message Other {")
+    editor.expect_codes(at(place, "user.proto"), "P120", "once the braces of the import show the type")
+    for text in (HEAD, 'syntax = "proto2";\n'):
+        editor.change(at(place, "bad.proto"), HEAD + "message {")
+        editor.wait_for(lambda: severities(editor.shown(at(place, "user.proto"))) == [("P150", 3), ("P120", 1)], "with the error again")
+        editor.change(at(place, "bad.proto"), text)
+        editor.wait_for(lambda: severities(editor.shown(at(place, "user.proto"))) == [("P150", 1), ("P120", 1)], "beside %s" % text)
     editor.end()
 
 
 def severities_elsewhere(place):
-    """For the same texts `script` and `listen` say the severity 1."""
-    files = {"bad.proto": 'syntax = "proto2";\n', "user.proto": HEAD + 'import "bad.proto";\nmessage M { Other o = 1; }\n'}
-    items = scripted(place.program, files)["user.proto"]
-    check([(it["code"], it["severity"]) for it in items], [("P104", 1), ("P150", 1)], "by script")
+    """By `script` and `listen` P104 and P150 have the severity 1, with --loose too. Without it another version is an error."""
+    files = {"bad.proto": HEAD + "message {", "two.proto": 'syntax = "proto2";\n',
+             "user.proto": HEAD + 'import "bad.proto";\nimport "two.proto";\nmessage M { Other o = 1; }\n'}
     write(place.folder, files)
-    server = Listener(place, "--sessions", "1", "--lib", place.folder)
-    client = server.begun()
-    check(client.pull("user.proto"), items, "by listen")
-    client.leave()
-    server.end()
+    for words, user, two in (((), ["P104", "P104", "P150"], ("P010", 1)), ((LOOSE,), ["P104", "P150"], ("P023", 3))):
+        lists = scripted(place.program, files, *words)
+        check(severities(lists["user.proto"]), [(code, 1) for code in user], "the user by script %s" % " ".join(words))
+        check(severities(lists["two.proto"]), [two], "the file of another version by script %s" % " ".join(words))
+        server = Listener(place, "--sessions", "1", "--lib", place.folder, *words)
+        client = server.begun()
+        for name, items in lists.items():
+            check(client.pull(name), items, "%s by listen %s" % (name, " ".join(words)))
+        client.leave()
+        server.end()
 
 
 def withdrawn(place):

@@ -18,15 +18,16 @@ BETWEEN = 10
 
 
 def text_of(chance, names):
-    """A random text that imports some of `names`. Some have syntax errors, bad numbers, missing types or a ring of imports."""
-    lines = ['syntax = "proto3";' if chance.random() < 0.95 else 'syntax = "proto2";']
+    """A random text that imports some of `names`. Some have syntax errors, another version, bad numbers, missing types or a ring of
+    imports."""
+    lines = ['syntax = "proto3";' if chance.random() < 0.9 else chance.choice(('syntax = "proto2";', 'edition = "2023";', ""))]
     lines += ['import "%s";' % name for name in chance.sample(names, chance.choice((0, 1, 1, 2)))]
     for _ in range(chance.randrange(4)):
         fields = " ".join("%s f%d = %d;" % (chance.choice(("int32", "A", "B", "C")), n, chance.choice((n, n, n, 0, 19000)))
                           for n in range(1, chance.randrange(1, 5)))
         lines.append("message %s { %s }" % (chance.choice("ABC"), fields))
     if chance.random() < 0.15:
-        lines.append(chance.choice(("message {", "}", '"', "enum E {}", "\u00e9 \U0001f600")))
+        lines.append(chance.choice(("message {", "message A", "message B {", "}", '"', "enum E {}", "\u00e9 \U0001f600")))
     return "\n".join(lines) + "\n"
 
 
@@ -136,7 +137,7 @@ class Model:
                 editor.tell((self.path(name), DELETED))
 
     def compare(self, step):
-        """Both editors have the lists that a new session of `script` says of the same texts."""
+        """Both editors have the lists that a new session of `script --loose` says of the same texts."""
         wanted = shown_by_rights(self.place.program, self.texts())
         for name in sorted(self.opened):
             what = "after step %d of seed %d, %s" % (step, self.place.seed, name)
@@ -173,7 +174,7 @@ def play(model, place):
 
 
 def random_edits(place):
-    """After each pause of random edits the lists that came and those that are asked for are those of `script`."""
+    """After each pause of random edits the lists that came and those that are asked for are those of `script --loose`."""
     play(Model(place, begun(place), begun(place, capabilities=PULLS), is_nested=False), place)
 
 

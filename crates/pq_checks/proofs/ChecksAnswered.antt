@@ -66,9 +66,9 @@ any_imports : (o : Option (List Import)) → IfImportsIn Any o
 any_imports None = tt
 any_imports (Some is) = any_each is
 
-module _ {K P V : Type 0} (m : Instance K P V) (files : Sources) (s : SchemaSum m files) (c : ChecksSum m files s) (t : SchemaMeans m files s) where
+module _ {K P V : Type 0} (m : Instance K P V) (loose : Bool) (files : Sources) (s : SchemaSum m loose files) (c : ChecksSum m loose files s) (t : SchemaMeans m loose files s) where
   abbrev g : Graph
-  g = graph_of files
+  g = graph_of loose files
 
   abbrev w : CheckWords K (Answer K V)
   w = words_of s c.referred_read c.ring_files
@@ -78,13 +78,13 @@ module _ {K P V : Type 0} (m : Instance K P V) (files : Sources) (s : SchemaSum 
 
   -- ---- what the sources say of the errors of a file is one
 
-  pub scope_one : (f : List ℕ) (x y : Scope) → IsScope files f x → IsScope files f y → x ≡ y
+  pub scope_one : (f : List ℕ) (x y : Scope) → IsScope loose files f x → IsScope loose files f y → x ≡ y
   scope_one f x y p q =
       let a : Answer K V = Value (s.scope.value x) in
       let b : Answer K V = Value (s.scope.value y) in
       sym (s.scope.back x) ∙ ap s.scope.read (one (s.scope.key f) a b ((t.scope f a).1 (x, refl, p)) ((t.scope f b).1 (y, refl, q))) ∙ s.scope.back y
 
-  pub resolved_one : (f : List ℕ) (x y : List ResolvedReference) → AreResolved files f x → AreResolved files f y → x ≡ y
+  pub resolved_one : (f : List ℕ) (x y : List ResolvedReference) → AreResolved loose files f x → AreResolved loose files f y → x ≡ y
   resolved_one f x y p q =
       let a : Answer K V = Value (s.resolved.value x) in
       let b : Answer K V = Value (s.resolved.value y) in
@@ -109,7 +109,7 @@ module _ {K P V : Type 0} (m : Instance K P V) (files : Sources) (s : SchemaSum 
   ring_at_one f r n None (Some n') p q = absurd q
   ring_at_one f r n (Some r') None p q = absurd q
 
-  surroundings_one : (f : List ℕ) (x y : Surroundings) → AreSurroundings files f x → AreSurroundings files f y → x ≡ y
+  surroundings_one : (f : List ℕ) (x y : Surroundings) → AreSurroundings loose files f x → AreSurroundings loose files f y → x ≡ y
   surroundings_one f x y p q =
       let ring = ring_at_one f x.ring x.next y.ring y.next p.ring_is q.ring_is in
       let others : x.others ≡ y.others =
@@ -121,12 +121,12 @@ module _ {K P V : Type 0} (m : Instance K P V) (files : Sources) (s : SchemaSum 
       ∙ ap (λ z. around y.imported y.ring y.next y.definitions z x.references) others
       ∙ ap (λ z. around y.imported y.ring y.next y.definitions y.others z) (resolved_one f x.references y.references p.references_are q.references_are)
 
-  pub faults_one : (f : List ℕ) (x y : List Fault) → AreFaults files f x → AreFaults files f y → x ≡ y
+  pub faults_one : (f : List ℕ) (x y : List Fault) → AreFaults loose files f x → AreFaults loose files f y → x ≡ y
   faults_one f x y p q =
-      p.2 ∙ ap (λ (z : Surroundings). file_faults z (items_in files f)) (surroundings_one f p.0 q.0 p.1 q.1) ∙ sym q.2
+      p.2 ∙ ap (λ (z : Surroundings). file_faults z (items_in loose files f)) (surroundings_one f p.0 q.0 p.1 q.1) ∙ sym q.2
 
-  diagnostics_one : (f : List ℕ) (x y : Diagnosed) → AreDiagnostics files f x → AreDiagnostics files f y → x ≡ y
-  diagnostics_one f x y p q = p.2 ∙ ap (λ (fs : List Fault). diagnosed fs (read_in files f)) (faults_one f p.0 q.0 p.1 q.1) ∙ sym q.2
+  diagnostics_one : (f : List ℕ) (x y : Diagnosed) → AreDiagnostics loose files f x → AreDiagnostics loose files f y → x ≡ y
+  diagnostics_one f x y p q = p.2 ∙ ap (λ (fs : List Fault). diagnosed fs (read_in loose files f)) (faults_one f p.0 q.0 p.1 q.1) ∙ sym q.2
 
   -- ---- each file has an answer
 
@@ -135,16 +135,16 @@ module _ {K P V : Type 0} (m : Instance K P V) (files : Sources) (s : SchemaSum 
   Answered k = (a : Answer K V) × Means m k a
 
   pub linked_answer : (f : List ℕ) → Answered (s.linked.key f)
-  linked_answer f = elim (linked_or_ring files f) [
+  linked_answer f = elim (linked_or_ring loose files f) [
     | inl l ↦ let a : Answer K V = Value (s.linked.value l.0) in (a, (t.linked f a).1 (l.0, refl, l.1))
     | inr r ↦ let a : Answer K V = Cycle (map s.linked.key r.0) in (a, (t.linked f a).1 (r.0, refl, r.1))
   ]
 
   pub scope_answer : (f : List ℕ) → Answered (s.scope.key f)
-  scope_answer f = let x = scope_exists files f in let a : Answer K V = Value (s.scope.value x.0) in (a, (t.scope f a).1 (x.0, refl, x.1))
+  scope_answer f = let x = scope_exists loose files f in let a : Answer K V = Value (s.scope.value x.0) in (a, (t.scope f a).1 (x.0, refl, x.1))
 
   pub resolved_answer : (f : List ℕ) → Answered (s.resolved.key f)
-  resolved_answer f = let x = resolved_exist files f in let a : Answer K V = Value (s.resolved.value x.0) in (a, (t.resolved f a).1 (x.0, refl, x.1))
+  resolved_answer f = let x = resolved_exist loose files f in let a : Answer K V = Value (s.resolved.value x.0) in (a, (t.resolved f a).1 (x.0, refl, x.1))
 
   low : (k : K) (n : ℕ) → m.level k ≡ n → n < check_level → m.level k < check_level
   low k n e l = subst (λ (i : ℕ). i < check_level) (sym e) l
@@ -185,25 +185,25 @@ module _ {K P V : Type 0} (m : Instance K P V) (files : Sources) (s : SchemaSum 
       diagnostics_left (λ q a k r e. diagnostics_falls c.checks.key (c.checks.read a) (s.parse.read a) q k r e) (λ q. Unit {0})
       (λ x. ((below (s.parse.key x) 1 (s.parse.embeds.level_is x) (omega arith), (_, (t.parse x _).1 refl)), tt)) (λ q a p. diagnostics_asks q a) f
 
-  faults_exist : (f : List ℕ) → (fs : List Fault) × AreFaults files f fs
-  faults_exist f = let b = checks_answer f in let is = checks_are m files s c t f b.0 b.1 in (is.0, is.2)
+  faults_exist : (f : List ℕ) → (fs : List Fault) × AreFaults loose files f fs
+  faults_exist f = let b = checks_answer f in let is = checks_are m loose files s c t f b.0 b.1 in (is.0, is.2)
 
   -- ---- what the sources say is the answer
 
-  means_checks : (f : List ℕ) (a : Answer K V) → (fs : List Fault) × (a ≡ Value (c.checks.value fs)) × AreFaults files f fs → Means m (c.checks.key f) a
+  means_checks : (f : List ℕ) (a : Answer K V) → (fs : List Fault) × (a ≡ Value (c.checks.value fs)) × AreFaults loose files f fs → Means m (c.checks.key f) a
   means_checks f a p =
       let b = checks_answer f in
-      let is = checks_are m files s c t f b.0 b.1 in
+      let is = checks_are m loose files s c t f b.0 b.1 in
       subst (Means m (c.checks.key f)) (is.1 ∙ ap (λ (x : List Fault). Value (c.checks.value x)) (faults_one f is.0 p.0 is.2 p.2) ∙ sym p.1) b.1
 
-  means_diagnostics : (f : List ℕ) (a : Answer K V) → (d : Diagnosed) × (a ≡ Value (c.diagnostics.value d)) × AreDiagnostics files f d → Means m (c.diagnostics.key f) a
+  means_diagnostics : (f : List ℕ) (a : Answer K V) → (d : Diagnosed) × (a ≡ Value (c.diagnostics.value d)) × AreDiagnostics loose files f d → Means m (c.diagnostics.key f) a
   means_diagnostics f a p =
       let b = diagnostics_answer f in
-      let is = diagnostics_are m files s c t f b.0 (p.2.0, p.2.1) b.1 in
+      let is = diagnostics_are m loose files s c t f b.0 (p.2.0, p.2.1) b.1 in
       subst (Means m (c.diagnostics.key f)) (is.1 ∙ ap (λ (x : Diagnosed). Value (c.diagnostics.value x)) (diagnostics_one f is.0 p.0 is.2 p.2) ∙ sym p.1) b.1
 
-  pub checks_mean : ChecksMeans m files s c
+  pub checks_mean : ChecksMeans m loose files s c
   checks_mean = record {
-    checks = λ f a. (checks_are m files s c t f a, means_checks f a);
-    diagnostics = λ f a. (diagnostics_are m files s c t f a (faults_exist f), means_diagnostics f a);
+    checks = λ f a. (checks_are m loose files s c t f a, means_checks f a);
+    diagnostics = λ f a. (diagnostics_are m loose files s c t f a (faults_exist f), means_diagnostics f a);
   }

@@ -90,10 +90,10 @@ ring_at g f ring (Some h) r n = (r, n)
 
 treeless : (fs xs : List Fault) (file : ParsedFile) → has_tree file ≡ false → diagnosed fs file ≡ diagnosed xs file
 treeless fs xs Absent e = refl
-treeless fs xs (Present (Tree nodes) lines) e = cc
-treeless fs xs (Present (SyntaxFault span c) lines) e = refl
+treeless fs xs (Present (Tree nodes) shown lines) e = cc
+treeless fs xs (Present (SyntaxFault span c) shown lines) e = refl
 
-module _ {K P V : Type 0} (m : Instance K P V) (files : Sources) (s : SchemaSum m files) (c : ChecksSum m files s) (t : SchemaMeans m files s) where
+module _ {K P V : Type 0} (m : Instance K P V) (loose : Bool) (files : Sources) (s : SchemaSum m loose files) (c : ChecksSum m loose files s) (t : SchemaMeans m loose files s) where
   abbrev w : CheckWords K (Answer K V)
   w = words_of s c.referred_read c.ring_files
 
@@ -101,7 +101,7 @@ module _ {K P V : Type 0} (m : Instance K P V) (files : Sources) (s : SchemaSum 
   advances q a = check_advances w q a
 
   abbrev g : Graph
-  g = graph_of files
+  g = graph_of loose files
 
   -- ---- the rule asks keys of lower levels alone
 
@@ -151,11 +151,11 @@ module _ {K P V : Type 0} (m : Instance K P V) (files : Sources) (s : SchemaSum 
 
   -- ---- what right answers say
 
-  itemed_is : (f : List ℕ) (a : Answer K V) → Means m (s.items.key f) a → s.items.read a ≡ items_in files f
-  itemed_is f a h = ap s.items.read ((t.items f a).0 h) ∙ s.items.back (items_in files f)
+  itemed_is : (f : List ℕ) (a : Answer K V) → Means m (s.items.key f) a → s.items.read a ≡ items_in loose files f
+  itemed_is f a h = ap s.items.read ((t.items f a).0 h) ∙ s.items.back (items_in loose files f)
 
   abbrev with_file : List ℕ → Imported
-  with_file h = record { file = h; state = state_of (items_in files h) }
+  with_file h = record { file = h; state = state_of (items_in loose files h) }
 
   states_are : (is : List Import) (es rest : Trace K V) (imported : List Imported) → AsksStates w is es rest imported → Each (λ e. Means m e.0 e.1) es
       → (imported ≡ map with_file (map file_of is)) × Each (λ e. Means m e.0 e.1) rest
@@ -165,7 +165,7 @@ module _ {K P V : Type 0} (m : Instance K P V) (files : Sources) (s : SchemaSum 
       let means : Means m (s.items.key i.file) e.1 = subst (λ (k : K). Means m k e.1) p.1 told.0 in
       let others = states_are is es rest p.0 p.3 told.1 in
       let made = λ (x : FileItems) (more : List Imported). record { file = i.file; state = state_of x } ∷ more in
-      (p.2 ∙ ap (λ (x : FileItems). made x p.0) (itemed_is i.file e.1 means) ∙ ap (made (items_in files i.file)) others.0, others.1)
+      (p.2 ∙ ap (λ (x : FileItems). made x p.0) (itemed_is i.file e.1 means) ∙ ap (made (items_in loose files i.file)) others.0, others.1)
 
   -- an answer for the links of an import
   next_step : (x : List ℕ) (is : List Import) (es : Trace K V) (next : Option (List ℕ)) (a : Answer K V) → LinkedIs g s.linked.key s.linked.value x a
@@ -203,7 +203,7 @@ module _ {K P V : Type 0} (m : Instance K P V) (files : Sources) (s : SchemaSum 
       let first : NextOf g (imported g f) next = subst (λ (hs : List (List ℕ)). NextOf g hs next) same (next_is is es next asks told) in
       subst (λ (o : Option (List (List ℕ))). IsRingAt g f o next) (sym some) (ring_at g f l.0 next ring first)
 
-  pub checks_are : (f : List ℕ) (a : Answer K V) → Means m (c.checks.key f) a → (fs : List Fault) × (a ≡ Value (c.checks.value fs)) × AreFaults files f fs
+  pub checks_are : (f : List ℕ) (a : Answer K V) → Means m (c.checks.key f) a → (fs : List Fault) × (a ≡ Value (c.checks.value fs)) × AreFaults loose files f fs
   checks_are f a h =
       let r = lower_runs m c.checks.key c.checks.part c.checks.value check_level (check_starts s.items.key) advances c.checks.embeds (omega arith) lower f a h in
       let x = r.1 in
@@ -212,7 +212,7 @@ module _ {K P V : Type 0} (m : Instance K P V) (files : Sources) (s : SchemaSum 
       let items = itemed_is f given.0 told.0 in
       let imports : s.imports.read given.1 ≡ g f = ap s.imports.read ((t.imports f given.1).0 told.1.0) ∙ s.imports.back (g f) in
       let links = (t.linked f given.2).0 told.1.1.0 in
-      let defs : s.defs.read given.3 ≡ defs_at files f = ap s.defs.read ((t.defs f given.3).0 told.1.1.1.0) ∙ s.defs.back (defs_at files f) in
+      let defs : s.defs.read given.3 ≡ defs_at loose files f = ap s.defs.read ((t.defs f given.3).0 told.1.1.1.0) ∙ s.defs.back (defs_at loose files f) in
       let scope = (t.scope f given.4).0 told.1.1.1.1.0 in
       let scoped : s.scope.read given.4 ≡ scope.0 = ap s.scope.read scope.1 ∙ s.scope.back scope.0 in
       let resolved = (t.resolved f given.5).0 told.1.1.1.1.1.0 in
@@ -220,19 +220,19 @@ module _ {K P V : Type 0} (m : Instance K P V) (files : Sources) (s : SchemaSum 
       let states = states_are (unwrap_or (s.imports.read given.1) []) given.6 given.7 given.8 given.11 told.1.1.1.1.1.1 in
       let same : map file_of (unwrap_or (s.imports.read given.1) []) ≡ imported g f = ap (λ (o : Option (List Import)). map file_of (unwrap_or o [])) imports in
       let around = surroundings_by f given.8 (c.ring_files given.2) given.9 (s.defs.read given.3) (s.scope.read given.4) (c.referred_read given.5) in
-      let are : AreSurroundings files f around = record {
+      let are : AreSurroundings loose files f around = record {
         imported_are = states.0 ∙ ap (map with_file) same;
         ring_is = ring_is f given.2 (unwrap_or (s.imports.read given.1) []) given.7 given.9 same links given.12 states.1;
         definitions_are = ap (λ (d : Defs). d.definitions) defs;
         others_are = (scope.0, scope.2, ap (other_files f) scoped);
-        references_are = subst (AreResolved files f) (sym referred) resolved.2;
+        references_are = subst (AreResolved loose files f) (sym referred) resolved.2;
       } in
       (x, r.3, (around, are, given.13 ∙ ap (file_faults around) items))
 
   -- ---- the diagnostics
 
-  parsed_is : (f : List ℕ) (a : Answer K V) → Means m (s.parse.key f) a → s.parse.read a ≡ read_in files f
-  parsed_is f a h = ap s.parse.read ((t.parse f a).0 h) ∙ s.parse.back (read_in files f)
+  parsed_is : (f : List ℕ) (a : Answer K V) → Means m (s.parse.key f) a → s.parse.read a ≡ read_in loose files f
+  parsed_is f a h = ap s.parse.read ((t.parse f a).0 h) ∙ s.parse.back (read_in loose files f)
 
   abbrev turns : DiagnosticsPart → Answer K V → Turn K DiagnosticsPart Diagnosed
   turns q a = diagnostics_advances c.checks.key (c.checks.read a) (s.parse.read a) q
@@ -250,16 +250,16 @@ module _ {K P V : Type 0} (m : Instance K P V) (files : Sources) (s : SchemaSum 
 
   -- the errors that were asked are those of the file; without a tree they do not matter
   errors_are : (f : List ℕ) (file : ParsedFile) (tree : Bool) (es : Trace K V) (fs : List Fault) → has_tree file ≡ tree
-      → (xs : List Fault) × AreFaults files f xs → AsksErrors c.checks.key c.checks.read f tree es fs → Each (λ e. Means m e.0 e.1) es
-      → (xs : List Fault) × AreFaults files f xs × (diagnosed fs file ≡ diagnosed xs file)
+      → (xs : List Fault) × AreFaults loose files f xs → AsksErrors c.checks.key c.checks.read f tree es fs → Each (λ e. Means m e.0 e.1) es
+      → (xs : List Fault) × AreFaults loose files f xs × (diagnosed fs file ≡ diagnosed xs file)
   errors_are f file true es fs tree exist asks told =
       let means = subst (λ (ys : Trace K V). Each (λ e. Means m e.0 e.1) ys) asks.1 told in
       let x = checks_are f asks.0 means.0 in
       (x.0, x.2, ap (λ (ys : List Fault). diagnosed ys file) (asks.2 ∙ ap c.checks.read x.1 ∙ c.checks.back x.0))
   errors_are f file false es fs tree exist asks told = (exist.0, exist.1, treeless fs exist.0 file tree)
 
-  pub diagnostics_are : (f : List ℕ) (a : Answer K V) → (fs : List Fault) × AreFaults files f fs → Means m (c.diagnostics.key f) a
-      → (d : Diagnosed) × (a ≡ Value (c.diagnostics.value d)) × AreDiagnostics files f d
+  pub diagnostics_are : (f : List ℕ) (a : Answer K V) → (fs : List Fault) × AreFaults loose files f fs → Means m (c.diagnostics.key f) a
+      → (d : Diagnosed) × (a ≡ Value (c.diagnostics.value d)) × AreDiagnostics loose files f d
   diagnostics_are f a exist h =
       let r = lower_runs m c.diagnostics.key c.diagnostics.part c.diagnostics.value diagnostics_level (diagnostics_starts s.parse.key) turns c.diagnostics.embeds (omega arith)
       (λ x. runs_below m diagnostics_level turns turns_below (diagnostics_starts s.parse.key x) (starts_below x)) f a h in

@@ -1,5 +1,5 @@
 -- A diagnostic of a text is its syntax error, or an error by the table at the span of its place.
-use Rattle.std.proofs.Common.{◌≡◌, List, [], ◌∷◌, refl, sym, subst, ap, ◌∙◌, inl, inr}
+use Rattle.std.proofs.Common.{◌≡◌, Bool, List, [], ◌∷◌, refl, sym, subst, ap, ◌∙◌, inl, inr}
 use Rattle.std.specs.Prelude.{◌↔◌, ◌⊎◌, Contains, Option, Some, None, filter_map}
 use Rattle.std.specs.List.{cons_option}
 use Rattle.std.specs.Option.{option_map}
@@ -51,10 +51,10 @@ module _ (nodes : List Node) where
       by rest (inl e) = subst (λ (x : Fault). Contains (cons_option (diagnostic_at nodes x) (filter_map (diagnostic_at nodes) gs)) (at_span f s)) (sym e) (here f s (filter_map (diagnostic_at nodes) gs) is)
       by rest (inr there) = later (diagnostic_at nodes g) (filter_map (diagnostic_at nodes) gs) (at_span f s) (rest there)
 
-pub each_is_diagnostic : (fs : List Fault) (p : Parsed) (d : Diagnostic) → Contains (parsed_diagnostics fs p) d ↔ IsDiagnostic fs p d
-each_is_diagnostic fs (Tree nodes) d =
+pub each_is_diagnostic : (other : Bool) (fs : List Fault) (p : Parsed) (d : Diagnostic) → Contains (parsed_diagnostics other fs p) d ↔ IsDiagnostic other fs p d
+each_is_diagnostic other fs (Tree nodes) d =
     let same = members_in_order diagnostics_total diagnostics_exact (filter_map (diagnostic_at nodes) fs) d in
     (λ h. found nodes fs d (same.0 h), λ p. same.1 (subst (λ (x : Diagnostic). Contains (filter_map (diagnostic_at nodes) fs) x) (sym p.4) (kept nodes fs p.0 p.1 p.2 p.3)))
-each_is_diagnostic fs (SyntaxFault span c) d =
-    let x = syntax_diagnostic span c in
+each_is_diagnostic other fs (SyntaxFault span c) d =
+    let x = syntax_diagnostic other span c in
     (λ h. only_one x d h, λ e. subst (λ (y : Diagnostic). Contains (x ∷ []) y) (sym e) (contains_head x []))

@@ -12,10 +12,12 @@ use Rattle.pq_syntax.specs.declared.parts.ConstantKind.TheVariants.{Aggregate, F
 use Rattle.pq_syntax.specs.declared.parts.Name.{Name}
 use Rattle.pq_syntax.specs.declared.tree.Node.{Node}
 use Rattle.pq_links.specs.Bare.{bare}
-use Rattle.pq_links.specs.Files.{items_of, nodes_in, nodes_of, parsed_items, read_in, tree_nodes}
+use Rattle.pq_links.specs.Files.{items_of, nodes_in, nodes_of, parsed_items, parsed_nodes, read_in}
 use Rattle.pq_links.specs.Place.{place}
 use Rattle.pq_links.specs.declared.files.ParsedFile.{ParsedFile}
 use Rattle.pq_links.specs.declared.files.ParsedFile.TheVariants.{Absent, Present}
+use Rattle.pq_links.specs.declared.files.Shown.{Shown}
+use Rattle.pq_links.specs.declared.file_items.FileItems.TheVariants as items
 use Rattle.pq_links.specs.declared.places.Part.{Part}
 use Rattle.pq_links.specs.declared.places.Part.TheVariants as part
 use Rattle.pq_links.specs.declared.places.TypePart.{TypePart}
@@ -198,20 +200,26 @@ spanned o None s is same = absurd (true≢false (ap (λ (x : Option Span). is_so
 stays_standing : (nodes : List Node) (x : Fault) → Stands (map bare nodes) x → Stands nodes x
 stays_standing nodes x h = spanned (place (map bare nodes) x.item x.part) (place nodes x.item x.part) h.0 h.1 (parts_stay nodes x.item x.part)
 
-text_stands : (p : Parsed) (s : Surroundings) (scope : Scope) (x : Fault) → s.definitions ≡ definitions_of (nodes_in (parsed_items p))
-    → s.references ≡ map (resolved_in scope) (references_of (nodes_in (parsed_items p))) → Contains (file_faults s (parsed_items p)) x → Stands (tree_nodes p) x
-text_stands (Tree nodes) s scope x ds rs h =
+-- of a text with an error no error is said by the table
+no_faults : (s : Surroundings) (nodes : List Node) (other : Bool) → file_faults s (cond other (items.Other nodes) (items.Fault nodes)) ≡ []
+no_faults s nodes true = refl
+no_faults s nodes false = refl
+
+text_stands : (p : Parsed) (shown : Shown) (s : Surroundings) (scope : Scope) (x : Fault) → s.definitions ≡ definitions_of (nodes_in (parsed_items p shown))
+    → s.references ≡ map (resolved_in scope) (references_of (nodes_in (parsed_items p shown))) → Contains (file_faults s (parsed_items p shown)) x → Stands (parsed_nodes p shown) x
+text_stands (Tree nodes) shown s scope x ds rs h =
     let all = map bare nodes in
     stays_standing nodes x (one_places all (table s all) (table_places all s scope ds rs) x ((each_line (table s all) x).0 h))
-text_stands (SyntaxFault span code) s scope x ds rs h = absurd (none_said x h)
+text_stands (SyntaxFault span code) shown s scope x ds rs h =
+    absurd (none_said x (subst (λ (xs : List Fault). Contains xs x) (no_faults s (map bare shown.nodes) shown.is_other) h))
 
 file_stands : (file : ParsedFile) (s : Surroundings) (scope : Scope) (x : Fault) → s.definitions ≡ definitions_of (nodes_in (items_of file))
     → s.references ≡ map (resolved_in scope) (references_of (nodes_in (items_of file))) → Contains (file_faults s (items_of file)) x → Stands (nodes_of file) x
 file_stands Absent s scope x ds rs h = absurd (none_said x h)
-file_stands (Present p lines) s scope x ds rs h = text_stands p s scope x ds rs h
+file_stands (Present p shown lines) s scope x ds rs h = text_stands p shown s scope x ds rs h
 
-pub all_stand : (files : Sources) (f : List ℕ) (fs : List Fault) (x : Fault) → AreFaults files f fs → Contains fs x → Stands (nodes_of (read_in files f)) x
-all_stand files f fs x are h =
+pub all_stand : (loose : Bool) (files : Sources) (f : List ℕ) (fs : List Fault) (x : Fault) → AreFaults loose files f fs → Contains fs x → Stands (nodes_of (read_in loose files f)) x
+all_stand loose files f fs x are h =
     let around = are.1 in
     let resolved = around.references_are in
-    file_stands (read_in files f) are.0 resolved.0 x around.definitions_are resolved.2 (subst (λ (xs : List Fault). Contains xs x) are.2 h)
+    file_stands (read_in loose files f) are.0 resolved.0 x around.definitions_are resolved.2 (subst (λ (xs : List Fault). Contains xs x) are.2 h)

@@ -1,6 +1,6 @@
 -- Sums of queries that embed the queries of a file's checks and diagnostics beside those of a
 -- schema, and what their keys mean. The public law `checks_in_rules` says this of every such sum.
-use Rattle.std.specs.Prelude.{ℕ, ◌≡◌, ◌↔◌, List, map, Option, Some, None}
+use Rattle.std.specs.Prelude.{ℕ, Bool, ◌≡◌, ◌↔◌, List, map, Option, Some, None}
 use Rattle.pq_inputs.specs.Sources.{Sources}
 use Rattle.pq_rules.specs.declared.turn.Answer.{Answer}
 use Rattle.pq_rules.specs.declared.turn.Answer.TheVariants.{Value, Cycle}
@@ -20,7 +20,7 @@ use Rattle.pq_checks.specs.declared.errors.fault.Fault.{Fault}
 
 -- `words_of s referred ring` is what the sum `s` offers the query, where `referred` and `ring` read
 -- the resolved references and the files of a cycle of an answer
-abbrev pub words_of : {K P V : Type 0} {m : Instance K P V} {files : Sources} → SchemaSum m files
+abbrev pub words_of : {K P V : Type 0} {m : Instance K P V} {loose : Bool} {files : Sources} → SchemaSum m loose files
     → (Answer K V → List ResolvedReference) → (Answer K V → Option (List (List ℕ))) → CheckWords K (Answer K V)
 words_of s referred ring = record {
   items = s.items.key;
@@ -37,9 +37,9 @@ words_of s referred ring = record {
   referred = referred;
 }
 
--- `ChecksSum m files s` is that the rule set at the sources `files`, `m`, which embeds the queries
+-- `ChecksSum m loose files s` is that the rule set at the sources `files`, `m`, which embeds the queries
 -- of a schema by `s`, embeds the queries of checks and of diagnostics
-pub record ChecksSum {K P V : Type 0} (m : Instance K P V) (files : Sources) (s : SchemaSum m files) : Type 0 where
+pub record ChecksSum {K P V : Type 0} (m : Instance K P V) (loose : Bool) (files : Sources) (s : SchemaSum m loose files) : Type 0 where
   -- what is read of an answer: resolved references, and the files of a cycle of links
   pub referred_read : Answer K V → List ResolvedReference
   pub ring_files : Answer K V → Option (List (List ℕ))
@@ -50,8 +50,8 @@ pub record ChecksSum {K P V : Type 0} (m : Instance K P V) (files : Sources) (s 
   pub checks : ReadInSum m check_level (check_starts s.items.key) (λ key read q a. check_advances (words_of s referred_read ring_files) q a)
   pub diagnostics : InSum m diagnostics_level (diagnostics_starts s.parse.key) (λ key q a. diagnostics_advances checks.key (checks.read a) (s.parse.read a) q)
 
--- `ChecksMeans m files s c` is that the answers of the checks and of the diagnostics of a file are
+-- `ChecksMeans m loose files s c` is that the answers of the checks and of the diagnostics of a file are
 -- what the sources say of its errors: `Means m key a` holds exactly of these answers `a`
-pub record ChecksMeans {K P V : Type 0} (m : Instance K P V) (files : Sources) (s : SchemaSum m files) (c : ChecksSum m files s) : Type 0 where
-  pub checks : (f : List ℕ) (a : Answer K V) → Means m (c.checks.key f) a ↔ ((fs : List Fault) × (a ≡ Value (c.checks.value fs)) × AreFaults files f fs)
-  pub diagnostics : (f : List ℕ) (a : Answer K V) → Means m (c.diagnostics.key f) a ↔ ((d : Diagnosed) × (a ≡ Value (c.diagnostics.value d)) × AreDiagnostics files f d)
+pub record ChecksMeans {K P V : Type 0} (m : Instance K P V) (loose : Bool) (files : Sources) (s : SchemaSum m loose files) (c : ChecksSum m loose files s) : Type 0 where
+  pub checks : (f : List ℕ) (a : Answer K V) → Means m (c.checks.key f) a ↔ ((fs : List Fault) × (a ≡ Value (c.checks.value fs)) × AreFaults loose files f fs)
+  pub diagnostics : (f : List ℕ) (a : Answer K V) → Means m (c.diagnostics.key f) a ↔ ((d : Diagnosed) × (a ≡ Value (c.diagnostics.value d)) × AreDiagnostics loose files f d)

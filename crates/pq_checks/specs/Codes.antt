@@ -1,6 +1,6 @@
 -- The codes of errors as they are printed, and the severity of each (Language Server Protocol 3.17,
 -- "DiagnosticSeverity"); the code and the message of each syntax error.
-use Rattle.std.specs.Prelude.{ℕ, List, codes}
+use Rattle.std.specs.Prelude.{ℕ, Bool, true, false, cond, ◌&&◌, List, codes}
 use Rattle.pq_lex.specs.declared.token.Code.TheVariants as lexical
 use Rattle.pq_syntax.specs.declared.fault.Code.{Code as SyntaxCode}
 use Rattle.pq_syntax.specs.declared.fault.Code.TheVariants as syntax
@@ -22,6 +22,7 @@ code_text code.UnexpectedToken = codes "P012"
 code_text code.AggregateConstant = codes "P020"
 code_text code.ExtendBlock = codes "P021"
 code_text code.FloatConstant = codes "P022"
+code_text code.OtherVersion = codes "P023"
 code_text code.PackageTwice = codes "P101"
 code_text code.ImportNotFound = codes "P102"
 code_text code.ImportTwice = codes "P103"
@@ -48,11 +49,12 @@ code_text code.TypeNotImported = codes "P151"
 code_text code.NotAType = codes "P152"
 code_text code.NotAMessage = codes "P153"
 
--- `severity c` is the severity of the code `c`: information for a skipped construct, else an error
+-- `severity c` is the severity of the code `c`: information for a part that is not read, else an error
 abbrev pub severity : Code → Severity
 severity code.AggregateConstant = Information
 severity code.ExtendBlock = Information
 severity code.FloatConstant = Information
+severity code.OtherVersion = Information
 severity _ = Error
 
 -- `severity_number s` is the number of the severity `s` in the protocol
@@ -83,3 +85,17 @@ syntax_text syntax.OnlyProto3 = codes "only syntax = \"proto3\" is read"
 syntax_text syntax.TooDeep = codes "nesting is deeper than 64"
 syntax_text syntax.UnexpectedToken = codes "unexpected token"
 syntax_text syntax.UnexpectedEnd = codes "unexpected end of file"
+
+-- `is_of_version c` is whether the syntax error `c` is that of the version
+abbrev pub is_of_version : SyntaxCode → Bool
+is_of_version syntax.OnlyProto3 = true
+is_of_version _ = false
+
+-- `said_code other c` is the code that is said of the syntax error `c` of a text, which is of another
+-- version of the language if `other`: of such a text the version is no error
+abbrev pub said_code : Bool → SyntaxCode → Code
+said_code other c = cond (other && is_of_version c) code.OtherVersion (syntax_code c)
+
+-- `said_text other c` is the message that is said of it
+abbrev pub said_text : Bool → SyntaxCode → List ℕ
+said_text other c = cond (other && is_of_version c) (codes "only the definitions of this file are read") (syntax_text c)

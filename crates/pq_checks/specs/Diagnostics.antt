@@ -12,7 +12,7 @@ use Rattle.pq_links.specs.Files.{read_file}
 use Rattle.pq_links.specs.Place.{place}
 use Rattle.pq_links.specs.declared.files.ParsedFile.{ParsedFile}
 use Rattle.pq_links.specs.declared.files.ParsedFile.TheVariants.{Absent, Present}
-use Rattle.pq_checks.specs.Codes.{syntax_code, syntax_text}
+use Rattle.pq_checks.specs.Codes.{said_code, said_text}
 use Rattle.pq_checks.specs.Compile.{AreFaults}
 use Rattle.pq_checks.specs.DiagnosticOrder.{diagnostic_cmp}
 use Rattle.pq_checks.specs.InOrder.{in_order}
@@ -29,29 +29,30 @@ at_span f s = record { start = s.start; end = s.end; code = f.code; text = f.tex
 abbrev pub diagnostic_at : List Node → Fault → Option Diagnostic
 diagnostic_at nodes f = option_map (at_span f) (place nodes f.item f.part)
 
--- `syntax_diagnostic span c` is the syntax error `c` at `span`
-abbrev pub syntax_diagnostic : Span → SyntaxCode → Diagnostic
-syntax_diagnostic span c = record { start = span.start; end = span.end; code = syntax_code c; text = syntax_text c }
+-- `syntax_diagnostic other span c` is the syntax error `c` at `span` of a text, which is of another
+-- version of the language if `other`
+abbrev pub syntax_diagnostic : Bool → Span → SyntaxCode → Diagnostic
+syntax_diagnostic other span c = record { start = span.start; end = span.end; code = said_code other c; text = said_text other c }
 
--- `parsed_diagnostics fs p` lists the diagnostics of a text with the tree or syntax error `p` and
--- the errors `fs` by the table: a syntax error is the only one
-abbrev pub parsed_diagnostics : List Fault → Parsed → List Diagnostic
-parsed_diagnostics fs (Tree nodes) = in_order diagnostic_cmp (filter_map (diagnostic_at nodes) fs)
-parsed_diagnostics fs (SyntaxFault span c) = syntax_diagnostic span c ∷ []
+-- `parsed_diagnostics other fs p` lists the diagnostics of a text with the tree or syntax error `p`
+-- and the errors `fs` by the table: a syntax error is the only one
+abbrev pub parsed_diagnostics : Bool → List Fault → Parsed → List Diagnostic
+parsed_diagnostics other fs (Tree nodes) = in_order diagnostic_cmp (filter_map (diagnostic_at nodes) fs)
+parsed_diagnostics other fs (SyntaxFault span c) = syntax_diagnostic other span c ∷ []
 
 -- `diagnostics_of fs file` lists the diagnostics of a file that is read as `file`, with the errors
 -- `fs` by the table; an absent file has none
 abbrev pub diagnostics_of : List Fault → ParsedFile → List Diagnostic
 diagnostics_of fs Absent = []
-diagnostics_of fs (Present p lines) = parsed_diagnostics fs p
+diagnostics_of fs (Present p shown lines) = parsed_diagnostics shown.is_other fs p
 
 -- `diagnosed fs file` is these diagnostics with what the file is read as: its lines give positions
 abbrev pub diagnosed : List Fault → ParsedFile → Diagnosed
 diagnosed fs file = record { diagnostics = diagnostics_of fs file; file = file }
 
--- `AreDiagnostics files f d` is that `d` is the diagnostics of the file `f`, with what it is read as
-abbrev pub AreDiagnostics : Sources → List ℕ → Diagnosed → Type 0
-AreDiagnostics files f d = (fs : List Fault) × AreFaults files f fs × (d ≡ diagnosed fs (read_file (file_in files f).text))
+-- `AreDiagnostics loose files f d` is that `d` is the diagnostics of the file `f`, with what it is read as
+abbrev pub AreDiagnostics : Bool → Sources → List ℕ → Diagnosed → Type 0
+AreDiagnostics loose files f d = (fs : List Fault) × AreFaults loose files f fs × (d ≡ diagnosed fs (read_file loose (file_in files f).text))
 
 -- `is_tree p` is whether the tree or syntax error `p` is a tree
 abbrev pub is_tree : Parsed → Bool
@@ -62,7 +63,7 @@ is_tree (SyntaxFault span c) = false
 -- has one with a syntax error
 abbrev pub has_tree : ParsedFile → Bool
 has_tree Absent = false
-has_tree (Present p lines) = is_tree p
+has_tree (Present p shown lines) = is_tree p
 
 -- `AsksErrors checks checked f tree es fs` is that the one question is for the errors of the file
 -- `f`, which are `fs`, if it has a `tree`, and that else there is no question and no such error
@@ -82,8 +83,8 @@ AreDiagnosticsBy {K = K} {A = A} checks parse checked parsed f es d =
 abbrev pub Stands : List Node → Fault → Type 0
 Stands nodes f = (s : Span) × (place nodes f.item f.part ≡ Some s)
 
--- `IsDiagnostic fs p d` is that `d` is the syntax error of a text that is parsed as `p`, or one of
--- the errors `fs` at the span of its place in the tree `p`
-abbrev pub IsDiagnostic : List Fault → Parsed → Diagnostic → Type 0
-IsDiagnostic fs (Tree nodes) d = (f : Fault) × (s : Span) × Contains fs f × (place nodes f.item f.part ≡ Some s) × (d ≡ at_span f s)
-IsDiagnostic fs (SyntaxFault span c) d = d ≡ syntax_diagnostic span c
+-- `IsDiagnostic other fs p d` is that `d` is the syntax error of a text that is parsed as `p`, or one
+-- of the errors `fs` at the span of its place in the tree `p`
+abbrev pub IsDiagnostic : Bool → List Fault → Parsed → Diagnostic → Type 0
+IsDiagnostic other fs (Tree nodes) d = (f : Fault) × (s : Span) × Contains fs f × (place nodes f.item f.part ≡ Some s) × (d ≡ at_span f s)
+IsDiagnostic other fs (SyntaxFault span c) d = d ≡ syntax_diagnostic other span c

@@ -2,7 +2,7 @@
 -- type references resolve to, and the definitions that it sees.
 use Rattle.std.specs.Prelude.{ℕ, cond, bytes_eq, List, [], ◌∷◌, Option}
 use Rattle.pq_links.specs.declared.file_items.FileItems.{FileItems}
-use Rattle.pq_links.specs.declared.file_items.FileItems.TheVariants.{Absent, Fault, Tree}
+use Rattle.pq_links.specs.declared.file_items.FileItems.TheVariants.{Absent, Fault, Other, Tree}
 use Rattle.pq_schema.specs.declared.define.definitions.Definition.{Definition}
 use Rattle.pq_schema.specs.declared.queries.resolved.ResolvedReference.{ResolvedReference}
 use Rattle.pq_schema.specs.declared.scope.scope.FileDefs.{FileDefs}
@@ -14,7 +14,8 @@ use Rattle.pq_checks.specs.declared.around.surroundings.Imported.{Imported}
 -- `state_of i` is the state of a file that is `i` without spans
 abbrev pub state_of : FileItems → FileState
 state_of Absent = Missing
-state_of Fault = Unreadable
+state_of (Fault nodes) = Unreadable
+state_of (Other nodes) = Readable
 state_of (Tree nodes) = Readable
 
 -- `Surroundings` is what the checks of a file know beside its tree

@@ -3,7 +3,7 @@
 //! A law of a query is of every sum of queries `S` and of every list `es` of questions with their
 //! answers by which the query's own rule runs from its start to a value. It says what the questions
 //! were, in order, and that the value is the definition, applied to what these answers say.
-ghost use Rattle.std.specs.Prelude.{◌≡◌, ◌↔◌, ℕ, List, [], Contains};
+ghost use Rattle.std.specs.Prelude.{◌≡◌, ◌↔◌, ℕ, Bool, List, [], Contains};
 ghost use Rattle.pq_checks.specs.Compile.{AreFaults};
 ghost use Rattle.pq_checks.specs.DiagnosticOrder.{diagnostic_cmp};
 ghost use Rattle.pq_checks.specs.Diagnostics.{AreDiagnosticsBy, IsDiagnostic, Stands, parsed_diagnostics};
@@ -65,14 +65,15 @@ pub fn each_fault()
 /// The tree of a file has the place of each error of the file by the table.
 pub fn each_stands()
     // The tree of a file has the place of each error that the table gives.
-    ensures stands { (files : Sources) (f : List ℕ) (fs : List Fault) (x : Fault) → AreFaults files f fs → Contains fs x → Stands (nodes_of (read_in files f)) x }
+    ensures stands { (loose : Bool) (files : Sources) (f : List ℕ) (fs : List Fault) (x : Fault) → AreFaults loose files f fs → Contains fs x → Stands (nodes_of (read_in loose files f)) x }
 {}
 
 /// A diagnostic of a text is its syntax error, or an error by the table at the span of its place.
 pub fn each_diagnostic()
     // A diagnostic is among those of a text exactly if it is its syntax error, or an error of the
-    // table at the span of its place.
-    ensures each { (fs : List Fault) (p : Parsed) (d : Diagnostic) → Contains (parsed_diagnostics fs p) d ↔ IsDiagnostic fs p d }
+    // table at the span of its place. Of a text of another version of the language, the version is
+    // information and no error.
+    ensures each { (other : Bool) (fs : List Fault) (p : Parsed) (d : Diagnostic) → Contains (parsed_diagnostics other fs p) d ↔ IsDiagnostic other fs p d }
 {}
 
 /// The diagnostics of a file ask for what it is read as, then, exactly if that is a tree, for its

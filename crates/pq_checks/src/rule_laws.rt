@@ -1,4 +1,5 @@
 //! A law of the queries in a rule set, as the contract of a function that does nothing.
+ghost use Rattle.std.specs.Prelude.{Bool};
 ghost use Rattle.pq_inputs.specs.Sources.{Sources};
 ghost use Rattle.pq_rules.specs.Turns.{over};
 ghost use Rattle.pq_schema.specs.SchemaSum.{SchemaSum};
@@ -12,5 +13,5 @@ pub fn checks_in_rules<R: Rules>(_rules: &R)
     // In every rule set that embeds the two queries beside those of a schema, at all sources, the
     // answers of these keys are exactly what the sources say of the file's errors, and of its
     // diagnostics.
-    ensures means { (files : Sources) (s : SchemaSum (over R.Key.cmp (R.machine _rules.now) files) files) (c : ChecksSum (over R.Key.cmp (R.machine _rules.now) files) files s) → ChecksMeans (over R.Key.cmp (R.machine _rules.now) files) files s c }
+    ensures means { (loose : Bool) (files : Sources) (s : SchemaSum (over R.Key.cmp (R.machine _rules.now) files) loose files) (c : ChecksSum (over R.Key.cmp (R.machine _rules.now) files) loose files s) → ChecksMeans (over R.Key.cmp (R.machine _rules.now) files) loose files s c }
 {}

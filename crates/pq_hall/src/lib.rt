@@ -47,7 +47,7 @@ pub use fault::HallFault;
 pub use hall::Hall;
 pub use joining::ClientEnds;
 pub use mark::{BoardName, Mark};
-pub use one_value::OneValue;
+pub use one_value::{Braces, HallRules, Loose, OneValue, Strict};
 pub use posting::{Moved, post_step, prepared_step};
 pub use running::{Hand, Next, run_step};
 pub use state::Client;

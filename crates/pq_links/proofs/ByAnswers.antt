@@ -1,5 +1,5 @@
 -- What each query asks and ends in, by the answers that it reads: the proofs of the public laws.
-use Rattle.std.proofs.Common.{◌≡◌, ℕ, List, [], ◌∷◌, ◌++◌, Option, Some, None, refl, sym, ap, subst, ◌∙◌, append-nil, append_assoc}
+use Rattle.std.proofs.Common.{◌≡◌, ℕ, Bool, List, [], ◌∷◌, ◌++◌, Option, Some, None, refl, sym, ap, subst, ◌∙◌, append-nil, append_assoc}
 use Rattle.pq_rules.specs.declared.turn.Turn.{Turn}
 use Rattle.pq_rules.specs.declared.turn.Turn.TheVariants.{Ask, Done}
 use Rattle.pq_rules.specs.Embedding.{Runs}
@@ -28,9 +28,9 @@ one_read asked made (e ∷ []) w r =
     (e.1, ap (λ k. (k, e.1) ∷ []) key, is)
 one_read asked made (e ∷ (d ∷ ds)) w r = let more = r.2.1 in cc
 
-pub parse_given : {K A : Type 0} (input : List ℕ → K) (text : A → Option (List ℕ)) (f : List ℕ) (es : List (K × A)) (v : ParsedFile)
-    → Runs (λ (q : Unit {0}) (a : A). parse_advances (text a)) (parse_starts input f) es (Done v) → IsParsedBy input text f es v
-parse_given input text f es v r = one_read (input f) (λ a. read_file (text a)) es v r
+pub parse_given : {K A : Type 0} (loose : Bool) (input : List ℕ → K) (text : A → Option (List ℕ)) (f : List ℕ) (es : List (K × A)) (v : ParsedFile)
+    → Runs (λ (q : Unit {0}) (a : A). parse_advances loose (text a)) (parse_starts input f) es (Done v) → IsParsedBy loose input text f es v
+parse_given loose input text f es v r = one_read (input f) (λ a. read_file loose (text a)) es v r
 
 pub items_given : {K A : Type 0} (parse : List ℕ → K) (parsed : A → ParsedFile) (f : List ℕ) (es : List (K × A)) (v : FileItems)
     → Runs (λ (q : Unit {0}) (a : A). items_advances (parsed a)) (items_starts parse f) es (Done v) → AreItemsBy parse parsed f es v

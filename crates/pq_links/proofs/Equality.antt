@@ -10,11 +10,23 @@ use Rattle.pq_links.specs.contracts.files as files
 use Rattle.pq_links.specs.contracts.links as links
 use Rattle.pq_links.specs.contracts.places as places
 
+-- what is shown of a text with an error
+pub shown : Told files.ShownPartialEq.TheImpl.ghosts.eq
+shown = of_struct files.Shown.struct files.Shown.the_propositions (fields nodes (one_field booleans_Decides))
+
 pub parsed_file : Told files.ParsedFilePartialEq.TheImpl.ghosts.eq
-parsed_file = of_enum files.ParsedFile.enum (variants no_field (variants (fields parsed (one_field same_lines_decides)) no_variant))
+parsed_file =
+    of_enum files.ParsedFile.enum
+    (variants no_field
+    (variants (fields parsed (fields shown (one_field same_lines_decides))) no_variant))
 
 pub file_items : Told items.FileItemsPartialEq.TheImpl.ghosts.eq
-file_items = of_enum items.FileItems.enum (variants no_field (variants no_field (variants (one_field nodes) no_variant)))
+file_items =
+    of_enum items.FileItems.enum
+    (variants no_field
+    (variants (one_field nodes)
+    (variants (one_field nodes)
+    (variants (one_field nodes) no_variant))))
 
 pub type_part : Told places.TypePartPartialEq.TheImpl.ghosts.eq
 type_part = of_bare places.TypePart.the_type tt

@@ -1,5 +1,5 @@
 -- The files that a file imports are among those that any file imports.
-use Rattle.std.proofs.Common.{◌≡◌, ℕ, List, [], ◌∷◌, map, Option, Some, None, unwrap_or, refl, inl, inr}
+use Rattle.std.proofs.Common.{◌≡◌, ℕ, Bool, List, [], ◌∷◌, map, Option, Some, None, unwrap_or, refl, inl, inr}
 use Rattle.std.specs.Str.{bytes_eq}
 use Rattle.std.proofs.lemmas.Bool.{cases_Bool}
 use Rattle.pq_inputs.specs.Sources.{Sources, file_in}
@@ -11,12 +11,12 @@ use Rattle.pq_links.specs.aux.Mentioned.{mentioned, all_mentioned}
 use Rattle.pq_links.specs.declared.links.Import.{Import}
 use Rattle.pq_links.proofs.NameKinds.{IfImportsIn}
 
-pub file_mentions : (files : Sources) (name w : List ℕ) → In w (mentioned (file_in files name).text) → In w (all_mentioned files)
+pub file_mentions : (loose : Bool) (files : Sources) (name w : List ℕ) → In w (mentioned loose (file_in files name).text) → In w (all_mentioned loose files)
 unfolding file_in
-file_mentions [] name w i = i
-file_mentions (x ∷ xs) name w i = elim (cases_Bool (bytes_eq x.0 name)) [
-  | inl h ↦ in_append_left w (mentioned x.1.text) (all_mentioned xs) (rw h at i)
-  | inr h ↦ in_append_right w (mentioned x.1.text) (all_mentioned xs) (file_mentions xs name w (rw h at i))
+file_mentions loose [] name w i = i
+file_mentions loose (x ∷ xs) name w i = elim (cases_Bool (bytes_eq x.0 name)) [
+  | inl h ↦ in_append_left w (mentioned loose x.1.text) (all_mentioned loose xs) (rw h at i)
+  | inr h ↦ in_append_right w (mentioned loose x.1.text) (all_mentioned loose xs) (file_mentions loose xs name w (rw h at i))
 ]
 
 each_sub : (N : List ℕ → Type 0) (xs : List (List ℕ)) → ((w : List ℕ) → In w xs → N w) → Each N xs
@@ -28,7 +28,7 @@ imports_sub N None sub = tt
 imports_sub N (Some is) sub = each_sub N (map file_of is) sub
 
 -- where each name that any file imports is of the kind `N`, those that a file imports are
-pub text_in_kind : (N : List ℕ → Type 0) (files : Sources) → ((w : List ℕ) → In w (all_mentioned files) → N w)
-    → (name : List ℕ) → IfImportsIn N (file_imports (items_of (read_file (file_in files name).text)))
-text_in_kind N files mentions name =
-    imports_sub N (file_imports (items_of (read_file (file_in files name).text))) (λ w i. mentions w (file_mentions files name w i))
+pub text_in_kind : (N : List ℕ → Type 0) (loose : Bool) (files : Sources) → ((w : List ℕ) → In w (all_mentioned loose files) → N w)
+    → (name : List ℕ) → IfImportsIn N (file_imports (items_of (read_file loose (file_in files name).text)))
+text_in_kind N loose files mentions name =
+    imports_sub N (file_imports (items_of (read_file loose (file_in files name).text))) (λ w i. mentions w (file_mentions loose files name w i))

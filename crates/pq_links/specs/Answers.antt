@@ -2,7 +2,7 @@
 -- every sum of queries, whatever its keys and answers are.
 --
 -- `es` is the questions of a run in order, each with its answer.
-use Rattle.std.specs.Prelude.{ℕ, ◌≡◌, List, [], ◌∷◌, Option, Some, None}
+use Rattle.std.specs.Prelude.{ℕ, Bool, ◌≡◌, List, [], ◌∷◌, Option, Some, None}
 use Rattle.pq_links.specs.Visibility.{links_by, no_links}
 use Rattle.pq_links.specs.Files.{read_file, file_imports, items_of}
 use Rattle.pq_links.specs.declared.file_items.FileItems.{FileItems}
@@ -10,10 +10,10 @@ use Rattle.pq_links.specs.declared.files.ParsedFile.{ParsedFile}
 use Rattle.pq_links.specs.declared.links.Import.{Import}
 use Rattle.pq_links.specs.declared.links.Links.{Links}
 
--- `IsParsedBy input text f es v` is that the one question is for the text of the file `f`, and that
--- `v` is what a file is read as with the text of the answer
-abbrev pub IsParsedBy : {K A : Type 0} → (List ℕ → K) → (A → Option (List ℕ)) → List ℕ → List (K × A) → ParsedFile → Type 0
-IsParsedBy {A = A} input text f es v = (a : A) × (es ≡ (input f, a) ∷ []) × (v ≡ read_file (text a))
+-- `IsParsedBy loose input text f es v` is that the one question is for the text of the file `f`, and
+-- that `v` is what a file is read as with the text of the answer
+abbrev pub IsParsedBy : {K A : Type 0} → Bool → (List ℕ → K) → (A → Option (List ℕ)) → List ℕ → List (K × A) → ParsedFile → Type 0
+IsParsedBy {A = A} loose input text f es v = (a : A) × (es ≡ (input f, a) ∷ []) × (v ≡ read_file loose (text a))
 
 -- `AreItemsBy parse parsed f es v` is that the one question is for what the file `f` is read as, and
 -- that `v` is that without spans

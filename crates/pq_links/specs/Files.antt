@@ -1,13 +1,19 @@
 -- What a file of the sources is read as, and the graph of the files' imports (proto3 language
 -- specification, "Import Statement").
 --
+-- A file whose text has an error has no tree. Where braces are read (`loose`), it has the statements
+-- that its braces show: packages, imports, messages, enums, services and groups. So other files find
+-- its definitions while it is typed in, and whatever version of the language it is written in.
+--
 -- The definition of `parsed`, of the tree or first error of a text, is that of pq_syntax, whose law
--- `each_parse` ties it to the grammar. `lines_of` is what an index keeps of the lines of a text, in
+-- `each_parse` ties it to the grammar. The laws `each_shown` and `one_shown` there tie `loosely` to the
+-- braces. `lines_of` is what an index keeps of the lines of a text, in
 -- pq_lex; the contracts of `LineIndex` tie it to positions.
 use Rattle.std.specs.Prelude.{ℕ, Bool, true, false, not, ◌&&◌, cond, bytes_eq, List, [], filter_map, map, Option, Some, None}
 use Rattle.std.specs.Str.{is_utf8}
 use Rattle.pq_inputs.specs.Sources.{Sources, file_in}
 use Rattle.pq_lex.specs.aux.LineMarks.{lines_of}
+use Rattle.pq_syntax.specs.aux.Loosely.{loosely, has_other_version}
 use Rattle.pq_syntax.specs.aux.Parsed.{parsed}
 use Rattle.pq_syntax.specs.declared.fault.Parsed.{Parsed}
 use Rattle.pq_syntax.specs.declared.fault.Parsed.TheVariants.{Tree, Fault}
@@ -23,6 +29,7 @@ use Rattle.pq_links.specs.declared.file_items.FileItems.{FileItems}
 use Rattle.pq_links.specs.declared.file_items.FileItems.TheVariants as items
 use Rattle.pq_links.specs.declared.files.ParsedFile.{ParsedFile}
 use Rattle.pq_links.specs.declared.files.ParsedFile.TheVariants.{Absent, Present}
+use Rattle.pq_links.specs.declared.files.Shown.{Shown}
 use Rattle.pq_links.specs.declared.links.Import.{Import}
 
 -- `is_public kind` is whether an import of the kind `kind` is public; a weak import counts as plain
@@ -54,54 +61,75 @@ import_statements nodes = filter_map (λ n. import_of n.statement) nodes
 abbrev pub imports_of : List Node → List Import
 imports_of nodes = each_once same_import (import_statements nodes)
 
--- `file_imports i` is the imports of a file that is `i` without spans, or `None` if it is absent;
--- with a syntax error it has none
+-- `file_imports i` is the imports of a file that is `i` without spans, or `None` if it is absent
 abbrev pub file_imports : FileItems → Option (List Import)
 file_imports items.Absent = None
-file_imports items.Fault = Some []
+file_imports (items.Fault nodes) = Some (imports_of nodes)
+file_imports (items.Other nodes) = Some (imports_of nodes)
 file_imports (items.Tree nodes) = Some (imports_of nodes)
 
--- `read_file text` is what a file with `text` is read as, `None` for an absent file
-abbrev pub read_file : Option (List ℕ) → ParsedFile
-read_file None = Absent
-read_file (Some text) = Present (parsed text) (lines_of text)
+-- `nothing_shown` is what is shown of a text whose braces are not read
+abbrev pub nothing_shown : Shown
+nothing_shown = record { nodes = []; is_other = false }
 
--- `read_in s f` is what the file `f` of the sources `s` is read as
-abbrev pub read_in : Sources → List ℕ → ParsedFile
-read_in s f = read_file (file_in s f).text
+-- `braces_of loose text` is what is shown of `text`, which has an error: what its braces show, if
+-- they are read
+abbrev pub braces_of : Bool → List ℕ → Shown
+braces_of false text = nothing_shown
+braces_of true text = record { nodes = loosely text; is_other = has_other_version text }
 
--- `parsed_items p` is what a text with the tree or error `p` is without spans
-abbrev pub parsed_items : Parsed → FileItems
-parsed_items (Tree nodes) = items.Tree (map bare nodes)
-parsed_items (Fault span code) = items.Fault
+-- `shown_of loose text p` is what is shown of `text` with the tree or error `p`: of a tree nothing
+-- more
+abbrev pub shown_of : Bool → List ℕ → Parsed → Shown
+shown_of loose text (Tree nodes) = nothing_shown
+shown_of loose text (Fault span code) = braces_of loose text
+
+-- `read_file loose text` is what a file with `text` is read as, `None` for an absent file
+abbrev pub read_file : Bool → Option (List ℕ) → ParsedFile
+read_file loose None = Absent
+read_file loose (Some text) = Present (parsed text) (shown_of loose text (parsed text)) (lines_of text)
+
+-- `read_in loose s f` is what the file `f` of the sources `s` is read as
+abbrev pub read_in : Bool → Sources → List ℕ → ParsedFile
+read_in loose s f = read_file loose (file_in s f).text
+
+-- `shown_items shown` is what a text with an error, of which `shown` is shown, is without spans
+abbrev pub shown_items : Shown → FileItems
+shown_items shown = cond shown.is_other (items.Other (map bare shown.nodes)) (items.Fault (map bare shown.nodes))
+
+-- `parsed_items p shown` is what a text with the tree or error `p` is without spans
+abbrev pub parsed_items : Parsed → Shown → FileItems
+parsed_items (Tree nodes) shown = items.Tree (map bare nodes)
+parsed_items (Fault span code) shown = shown_items shown
 
 -- `items_of file` is what a file that is read as `file` is without spans
 abbrev pub items_of : ParsedFile → FileItems
 items_of Absent = items.Absent
-items_of (Present p lines) = parsed_items p
+items_of (Present p shown lines) = parsed_items p shown
 
--- `items_in s f` is what the file `f` of the sources `s` is without spans
-abbrev pub items_in : Sources → List ℕ → FileItems
-items_in s f = items_of (read_in s f)
+-- `items_in loose s f` is what the file `f` of the sources `s` is without spans
+abbrev pub items_in : Bool → Sources → List ℕ → FileItems
+items_in loose s f = items_of (read_in loose s f)
 
--- `nodes_in i` is the statements without spans of a file that is `i`; only a tree has some
+-- `nodes_in i` is the statements without spans of a file that is `i`; an absent file has none
 abbrev pub nodes_in : FileItems → List Node
 nodes_in items.Absent = []
-nodes_in items.Fault = []
+nodes_in (items.Fault nodes) = nodes
+nodes_in (items.Other nodes) = nodes
 nodes_in (items.Tree nodes) = nodes
 
--- `graph_of s` is the import graph of the sources `s`
-abbrev pub graph_of : Sources → Graph
-graph_of s f = file_imports (items_in s f)
+-- `graph_of loose s` is the import graph of the sources `s`
+abbrev pub graph_of : Bool → Sources → Graph
+graph_of loose s f = file_imports (items_in loose s f)
 
--- `tree_nodes p` is the statements of a text with the tree or error `p`: with a syntax error it has
--- none
-abbrev pub tree_nodes : Parsed → List Node
-tree_nodes (Tree nodes) = nodes
-tree_nodes (Fault span code) = []
+-- `parsed_nodes p shown` is the statements of a text with the tree or error `p`: with an error, those
+-- that are shown
+abbrev pub parsed_nodes : Parsed → Shown → List Node
+parsed_nodes (Tree nodes) shown = nodes
+parsed_nodes (Fault span code) shown = shown.nodes
 
 -- `nodes_of file` is the statements, with their spans, of a file that is read as `file`; an absent
 -- file has none
 abbrev pub nodes_of : ParsedFile → List Node
 nodes_of Absent = []
-nodes_of (Present p lines) = tree_nodes p
+nodes_of (Present p shown lines) = parsed_nodes p shown

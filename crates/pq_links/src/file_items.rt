@@ -4,11 +4,11 @@
 //! it, and not the parse, does not start again after such an edit.
 ghost use Rattle.std.specs.Prelude.{◌≡◌, IfOk, map};
 ghost use Rattle.pq_links.specs.Bare.{bare};
-ghost use Rattle.pq_links.specs.Files.{items_of, nodes_in, parsed_items};
+ghost use Rattle.pq_links.specs.Files.{items_of, nodes_in, parsed_items, shown_items};
 
 use crate::Memory;
 use crate::bare::bare_nodes;
-use crate::files::ParsedFile;
+use crate::files::{ParsedFile, Shown};
 use pq_syntax::{File, Items, Node, Parsed};
 use std::alloc::Global;
 use std::marker::Model;
@@ -42,7 +42,7 @@ impl BareFile {
 
     /// The statements, in text order.
     pub fn as_slice(&self) -> &[Node]
-        // The statements without spans; an absent file and one with a syntax error have none.
+        // The statements of the file without spans.
         ensures nodes { result.now ≡ self.now }
     {
         self.nodes.as_slice()
@@ -72,32 +72,50 @@ impl Eq for BareFile {
 pub enum FileItems {
     /// The sources have no such file.
     Absent,
-    /// The text of the file has an error.
-    Fault,
+    /// The text of the file has an error. The statements are those that its braces show, where
+    /// these are read.
+    Fault(BareFile),
+    /// The text of the file is of another version of the language. The statements are those that
+    /// its braces show.
+    Other(BareFile),
     /// The statements of the file.
     Tree(BareFile),
 }
 
 impl FileItems {
-    /// The statements, of which only a tree has some.
+    /// The statements, in text order. An absent file has none.
     pub fn nodes(&self) -> &[Node]
-        // The statements without spans; an absent file and one with a syntax error have none.
+        // The statements without spans: of a tree, or those that braces show; an absent file has
+        // none.
         ensures nodes { result.now ≡ nodes_in self.now }
     {
         match self {
-            FileItems::Tree(file) => file.as_slice(),
-            FileItems::Absent | FileItems::Fault => &[],
+            FileItems::Tree(file) | FileItems::Fault(file) | FileItems::Other(file) => {
+                file.as_slice()
+            }
+            FileItems::Absent => &[],
         }
     }
 }
 
-/// The tree or error `parsed` without spans.
-fn parsed_items(alloc: Global, parsed: &Parsed) -> Result<FileItems, Memory>
-    ensures items { IfOk result (λ i. i ≡ parsed_items parsed.now) }
+/// What is shown of a text with an error, without spans.
+fn shown_items(alloc: Global, shown: &Shown) -> Result<FileItems, Memory>
+    ensures items { IfOk result (λ i. i ≡ shown_items shown.now) }
+{
+    let file = BareFile::of(alloc, &shown.nodes)?;
+    if shown.is_other {
+        return Ok(FileItems::Other(file));
+    }
+    Ok(FileItems::Fault(file))
+}
+
+/// The tree or error `parsed` without spans, where `shown` is shown beside an error.
+fn parsed_items(alloc: Global, parsed: &Parsed, shown: &Shown) -> Result<FileItems, Memory>
+    ensures items { IfOk result (λ i. i ≡ parsed_items parsed.now shown.now) }
 {
     match parsed {
         Parsed::Tree(nodes) => Ok(FileItems::Tree(BareFile::of(alloc, nodes)?)),
-        Parsed::Fault { .. } => Ok(FileItems::Fault),
+        Parsed::Fault { .. } => shown_items(alloc, shown),
     }
 }
 
@@ -106,7 +124,7 @@ pub(crate) fn items_of(alloc: Global, file: &ParsedFile) -> Result<FileItems, Me
     ensures items { IfOk result (λ i. i ≡ items_of file.now) }
 {
     match file {
-        ParsedFile::Present { parsed, .. } => parsed_items(alloc, parsed),
+        ParsedFile::Present { parsed, shown, .. } => parsed_items(alloc, parsed, shown),
         ParsedFile::Absent => Ok(FileItems::Absent),
     }
 }

@@ -95,8 +95,9 @@ pub(crate) fn imports_of_file(
     ensures imports { IfOk result (λ is. is ≡ file_imports items.now) }
 {
     let imports = match items {
-        FileItems::Tree(file) => imports_in(alloc, file.as_slice())?,
-        FileItems::Fault => Items::new(Vec::new(alloc)),
+        FileItems::Tree(file) | FileItems::Fault(file) | FileItems::Other(file) => {
+            imports_in(alloc, file.as_slice())?
+        }
         FileItems::Absent => return Ok(None),
     };
     Ok(Some(Shared::new(alloc, imports)?))

@@ -6,10 +6,11 @@
 //! say. `links_in_rules` is of the answers in a rule set. The last two say by the walks of imports
 //! and by the grammar what the definitions of links and of a file as it is read compute.
 ghost use Rattle.std.specs.List.{IsDistinct};
-ghost use Rattle.std.specs.Prelude.{◌≡◌, ◌↔◌, IsSome, List, ℕ, Option, Some, bytes_eq};
+ghost use Rattle.std.specs.Prelude.{◌≡◌, ◌↔◌, Bool, true, IsSome, List, ℕ, Option, Some, bytes_eq};
 ghost use Rattle.pq_lex.specs.aux.LineMarks.{lines_of};
 ghost use Rattle.pq_lex.specs.declared.token.Span.{Span};
 ghost use Rattle.pq_syntax.specs.FaultPlace.{FaultStands, IsTree};
+ghost use Rattle.pq_syntax.specs.Loose.{IsShown};
 ghost use Rattle.pq_syntax.specs.declared.fault.Code.{Code};
 ghost use Rattle.pq_syntax.specs.declared.fault.Parsed.TheVariants.{Fault, Tree};
 ghost use Rattle.pq_syntax.specs.declared.tree.Node.{Node};
@@ -21,7 +22,7 @@ ghost use Rattle.pq_rules.specs.Relations.{In};
 ghost use Rattle.pq_rules.specs.Turns.{over};
 ghost use Rattle.pq_rules.specs.Value.{Means};
 ghost use Rattle.pq_links.specs.Answers.{IsParsedBy, AreItemsBy, AreImportsBy, AreLinksBy};
-ghost use Rattle.pq_links.specs.Files.{read_file};
+ghost use Rattle.pq_links.specs.Files.{braces_of, nothing_shown, read_file};
 ghost use Rattle.pq_links.specs.ImportGraph.{Graph};
 ghost use Rattle.pq_links.specs.Leading.{IsInView, LeadsPublicly, LeadsTo};
 ghost use Rattle.pq_links.specs.LinkedKeys.{EmbedsLinks, LinkedIs};
@@ -36,13 +37,13 @@ ghost use Rattle.pq_links.specs.declared.links.Links.{Links};
 
 use crate::keys::LinkKeys;
 use pq_rules::Rules;
-use pq_syntax::{each_parse, one_fault, one_tree};
+use pq_syntax::{each_parse, each_shown, one_fault, one_tree};
 
 /// The parse of a file asks its text, and ends in what a file with that text is read as.
 pub fn parse_by_answers<S: LinkKeys>()
     // The query of a parse asks the file's text, and ends in the tree or first error of that text,
-    // with its lines.
-    ensures gives { (f : List ℕ) (es : List (S.Key × S.Answer)) (v : ParsedFile) → Runs (λ (q : Unit {0}) (a : S.Answer). parse_advances (S.text a)) (parse_starts S.input f) es (Done v) → IsParsedBy S.input S.text f es v }
+    // with what braces show of it, where they are read, and its lines.
+    ensures gives { (loose : Bool) (f : List ℕ) (es : List (S.Key × S.Answer)) (v : ParsedFile) → Runs (λ (q : Unit {0}) (a : S.Answer). parse_advances loose (S.text a)) (parse_starts S.input f) es (Done v) → IsParsedBy loose S.input S.text f es v }
 {}
 
 /// The tree without spans of a file asks its parse, and ends in what that is without spans.
@@ -99,11 +100,15 @@ pub fn reach_is_walks()
 /// that is its first error. The law `places_of_text` of `pq_proto` says the same of its lines.
 pub fn read_by_grammar()
     // `tree`, `fault`: A text is read as a tree exactly if that is its tree by the grammar, and as
-    // an error exactly if that is its first error, beside its lines.
-    ensures tree { (text : List ℕ) (nodes : List Node) → (read_file (Some text) ≡ Present (Tree nodes) (lines_of text)) ↔ IsTree text nodes }
-    ensures fault { (text : List ℕ) (span : Span) (code : Code) → (read_file (Some text) ≡ Present (Fault span code) (lines_of text)) ↔ FaultStands text span code }
+    // an error exactly if that is its first error, beside its lines. Beside an error is what braces
+    // show, where they are read.
+    ensures tree { (loose : Bool) (text : List ℕ) (nodes : List Node) → (read_file loose (Some text) ≡ Present (Tree nodes) nothing_shown (lines_of text)) ↔ IsTree text nodes }
+    ensures fault { (loose : Bool) (text : List ℕ) (span : Span) (code : Code) → (read_file loose (Some text) ≡ Present (Fault span code) (braces_of loose text) (lines_of text)) ↔ FaultStands text span code }
+    // Where braces are read, what is shown of a text with an error is what its braces show.
+    ensures shown { (text : List ℕ) → IsShown text (braces_of true text).nodes }
 {
     each_parse();
+    each_shown();
     one_tree();
     one_fault();
 }

@@ -2,9 +2,10 @@
 //! imports, and its links, which are the files that it exports, sees and reaches.
 //!
 //! The graph is defined in `specs/ImportGraph`, exports, visible and reached files in
-//! `specs/Visibility`, and what a text is read as in `specs/Files`. The four queries know no rule
-//! set: a sum of queries makes their keys and reads its answers through `LinkKeys`. The laws say
-//! what each query asks and ends in, for every sum. The law `links_in_rules` says what the answers
+//! `specs/Visibility`, and what a text is read as in `specs/Files`: where a rule set reads braces, a
+//! text with an error has the statements that they show. The four queries know no rule set: a sum of
+//! queries makes their keys and reads its answers through `LinkKeys`. The laws say what each query
+//! asks and ends in, for every sum. The law `links_in_rules` says what the answers
 //! of links are in every rule set: the links of a good file, and for a bad one the ring into which
 //! it leads.
 #![tactic(auto)]
@@ -26,7 +27,7 @@ mod places;
 
 pub use file_items::{BareFile, FileItems};
 pub use file_names::FileNames;
-pub use files::ParsedFile;
+pub use files::{ParsedFile, Shown};
 pub use imports::ImportsQuery;
 pub use items_query::ItemsQuery;
 pub use keys::LinkKeys;

@@ -11,24 +11,32 @@ use pq_rules::{Query, Shared, Text, Turn};
 use std::alloc::Global;
 use std::marker::PhantomData;
 
-/// The parse of a file: its tree or its first error, and its lines (the law `parse_by_answers`).
+/// The parse of a file: its tree or its first error, and its lines (the law `parse_by_answers`). Of
+/// a text with an error it has what braces show too, if it reads them.
 #[derive(Drop)]
 pub struct ParseQuery<S> {
+    loose: bool,
     sum: PhantomData<S>,
 }
 
 impl<S> ParseQuery<S> {
-    /// Makes the query.
-    pub fn new() -> Self {
-        ParseQuery { sum: PhantomData }
+    /// Makes the query, which reads the braces of a text with an error if `loose` is true.
+    pub fn new(loose: bool) -> Self
+        // The query reads braces exactly if that was asked for.
+        ensures loose { result.loose ≡ loose }
+    {
+        ParseQuery {
+            loose,
+            sum: PhantomData,
+        }
     }
 }
 
 /// Reads a file with `text`, to be shared.
-fn read_shared(alloc: Global, text: Option<&str>) -> Result<Shared<ParsedFile>, Memory>
-    ensures file { IfOk result (λ f. f ≡ read_file (option_copied text.entry)) }
+fn read_shared(alloc: Global, loose: bool, text: Option<&str>) -> Result<Shared<ParsedFile>, Memory>
+    ensures file { IfOk result (λ f. f ≡ read_file loose (option_copied text.entry)) }
 {
-    let file = read_file(alloc, text)?;
+    let file = read_file(alloc, loose, text)?;
     Shared::new(alloc, file)
 }
 
@@ -49,7 +57,7 @@ impl<S: LinkKeys> Query for ParseQuery<S> {
 
     ghost starts = { λ s k. parse_starts S.input k };
 
-    ghost advances = { λ s p a. parse_advances (S.text a) };
+    ghost advances = { λ s p a. parse_advances s.loose (S.text a) };
 
     ghost lefts = { λ s p. (0, 0) };
 
@@ -69,7 +77,7 @@ impl<S: LinkKeys> Query for ParseQuery<S> {
         _part: (),
         answer: &S::Answer,
     ) -> Result<Turn<S::Key, (), Shared<ParsedFile>>, ()> {
-        match read_shared(alloc, S::read_text(answer)) {
+        match read_shared(alloc, self.loose, S::read_text(answer)) {
             Ok(file) => Ok(Turn::Done(file)),
             Err(_) => Err(()),
         }

@@ -31,7 +31,8 @@ A = Answer ProtoKey ProtoValue
 
 after_items : (f : List ℕ) (i : FileItems) (es : Reads) (t : List ℕ) → Runs descriptor_advances (tree_turn f i (has_tree i)) es (Done t) → AfterItems f i es t
 after_items f items.Absent es t r = ended descriptor_advances (codes "null") t es r
-after_items f items.Fault es t r = ended descriptor_advances (codes "null") t es r
+after_items f (items.Fault nodes) es t r = ended descriptor_advances (codes "null") t es r
+after_items f (items.Other nodes) es t r = ended descriptor_advances (codes "null") t es r
 after_items f (items.Tree nodes) es t r =
     asked_last descriptor_advances (keys.Resolved f) (descriptors.ReadResolved f (items.Tree nodes)) (λ a. compact_text (descriptor (resolved_read a) f nodes)) es t (λ a. refl) r
 

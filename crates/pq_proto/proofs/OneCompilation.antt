@@ -47,38 +47,38 @@ use Rattle.pq_proto.proofs.ProtoMeaning.{m, schema, checks, means_compiles, symb
 abbrev A : Type 0
 A = Answer ProtoKey ProtoValue
 
-module _ (order : ProtoKey → ProtoKey → Ordering) (files : Sources)
+module _ (order : ProtoKey → ProtoKey → Ordering) (loose : Bool) (files : Sources)
     (order_is : (f h : List ℕ) → order (keys.Linked f) (keys.Linked h) ≡ slice_cmp nat_cmp f h) (one_way : Strict order) where
   abbrev i : Instance ProtoKey ProtoPart ProtoValue
-  i = m order files order_is one_way
+  i = m order loose files order_is one_way
 
-  module _ (t : SchemaMeans i files (schema order files order_is one_way)) (u : ChecksMeans i files (schema order files order_is one_way) (checks order files order_is one_way)) where
+  module _ (t : SchemaMeans i loose files (schema order loose files order_is one_way)) (u : ChecksMeans i loose files (schema order loose files order_is one_way) (checks order loose files order_is one_way)) where
     abbrev g : Graph
-    g = graph_of files
+    g = graph_of loose files
 
     one : (k : ProtoKey) (a b : A) → Means i k a → Means i k b → a ≡ b
     one = means_one i one_way
 
     -- ---- what a key compiles to is one
 
-    resolved_one : (f : List ℕ) (rs rs' : List ResolvedReference) → AreResolved files f rs → AreResolved files f rs' → rs ≡ rs'
-    resolved_one = one_resolved i files (schema order files order_is one_way) (checks order files order_is one_way) t
+    resolved_one : (f : List ℕ) (rs rs' : List ResolvedReference) → AreResolved loose files f rs → AreResolved loose files f rs' → rs ≡ rs'
+    resolved_one = one_resolved i loose files (schema order loose files order_is one_way) (checks order loose files order_is one_way) t
 
-    faults_one : (f : List ℕ) (fs gs : List Fault) → AreFaults files f fs → AreFaults files f gs → fs ≡ gs
-    faults_one = one_faults i files (schema order files order_is one_way) (checks order files order_is one_way) t
+    faults_one : (f : List ℕ) (fs gs : List Fault) → AreFaults loose files f fs → AreFaults loose files f gs → fs ≡ gs
+    faults_one = one_faults i loose files (schema order loose files order_is one_way) (checks order loose files order_is one_way) t
 
-    descriptor_one : (f v w : List ℕ) → IsDescriptor files f v → IsDescriptor files f w → v ≡ w
+    descriptor_one : (f v w : List ℕ) → IsDescriptor loose files f v → IsDescriptor loose files f w → v ≡ w
     descriptor_one f v w p q =
         p.4
-        ∙ ap (λ fs. descriptor_by f fs (items_in files f) p.1) (faults_one f p.0 q.0 p.2 q.2)
-        ∙ ap (λ rs. descriptor_by f q.0 (items_in files f) rs) (resolved_one f p.1 q.1 p.3 q.3)
+        ∙ ap (λ fs. descriptor_by f fs (items_in loose files f) p.1) (faults_one f p.0 q.0 p.2 q.2)
+        ∙ ap (λ rs. descriptor_by f q.0 (items_in loose files f) rs) (resolved_one f p.1 q.1 p.3 q.3)
         ∙ sym q.4
 
-    definition_one : (f : List ℕ) (place : Place) (v w : Option Location) → IsDefinition files f place v → IsDefinition files f place w → v ≡ w
+    definition_one : (f : List ℕ) (place : Place) (v w : Option Location) → IsDefinition loose files f place v → IsDefinition loose files f place w → v ≡ w
     definition_one f place v w p q =
-        p.2 ∙ ap (λ rs. definition_by (read_in files) f place rs) (resolved_one f p.0 q.0 p.1 q.1) ∙ sym q.2
+        p.2 ∙ ap (λ rs. definition_by (read_in loose files) f place rs) (resolved_one f p.0 q.0 p.1 q.1) ∙ sym q.2
 
-    pub compiles_one : (k : ProtoKey) (a b : A) → Compiles files k a → Compiles files k b → a ≡ b
+    pub compiles_one : (k : ProtoKey) (a b : A) → Compiles loose files k a → Compiles loose files k b → a ≡ b
     compiles_one (keys.Input f) a b p q = p ∙ sym q
     compiles_one (keys.Parse f) a b p q = p ∙ sym q
     compiles_one (keys.Items f) a b p q = p ∙ sym q
@@ -105,17 +105,17 @@ module _ (order : ProtoKey → ProtoKey → Ordering) (files : Sources)
     items_answer f = (_, (t.items f _).1 refl)
 
     resolved_answer : (f : List ℕ) → Answered (keys.Resolved f)
-    resolved_answer = answer_of_resolved i files (schema order files order_is one_way) (checks order files order_is one_way) t
+    resolved_answer = answer_of_resolved i loose files (schema order loose files order_is one_way) (checks order loose files order_is one_way) t
 
     checks_answer : (f : List ℕ) → Answered (keys.Checks f)
-    checks_answer = answer_of_checks i files (schema order files order_is one_way) (checks order files order_is one_way) t
+    checks_answer = answer_of_checks i loose files (schema order loose files order_is one_way) (checks order loose files order_is one_way) t
 
     symbols_answer : (f : List ℕ) → Answered (keys.Symbols f)
     symbols_answer f =
         let p = parse_answer f in (
           _,
           makes_once i (λ x. keys.Symbols x) (λ (q : Unit {0}). Listing) (λ v. values.Symbols v) output_level symbols_starts (λ q a. symbols_advances a)
-              (symbols_embed order files order_is one_way t u) (λ x. keys.Parse x) (λ x. tt) (λ x a. symbols_of (parsed_read a)) (λ x. refl) (λ x a. refl) (λ x. omega arith) f p.0 p.1,
+              (symbols_embed order loose files order_is one_way t u) (λ x. keys.Parse x) (λ x. tt) (λ x a. symbols_of (parsed_read a)) (λ x. refl) (λ x a. refl) (λ x. omega arith) f p.0 p.1,
         )
 
     bare_asks : (f : List ℕ) (failed : Bool) → Asks i output_level (λ (q : DescriptorPart). Unit {0}) (bare_turn f failed)
@@ -134,7 +134,7 @@ module _ (order : ProtoKey → ProtoKey → Ordering) (files : Sources)
     descriptor_answer : (f : List ℕ) → Answered (keys.Descriptor f)
     descriptor_answer f =
         has_answer i (λ x. keys.Descriptor x) (λ q. Describing q) (λ v. values.Descriptor v) output_level descriptor_starts descriptor_advances
-        (descriptor_embeds order files order_is one_way t u) (omega arith) descriptor_left descriptor_falls (λ q. Unit {0})
+        (descriptor_embeds order loose files order_is one_way t u) (omega arith) descriptor_left descriptor_falls (λ q. Unit {0})
         (λ x. ((omega arith, checks_answer x), tt)) (λ q a p. descriptor_asks q a) f
 
     references_asks : (f : List ℕ) (file : ParsedFile) (o : Option ℕ) → Asks i output_level (λ (q : DefinitionPart). Unit {0}) (references_turn f file o)
@@ -152,8 +152,8 @@ module _ (order : ProtoKey → ProtoKey → Ordering) (files : Sources)
 
     definition_answer : (f : List ℕ) (place : Place) → Answered (keys.Definition f place)
     definition_answer f place =
-        has_answer i (λ (x : Spot order files order_is one_way t u). keys.Definition x.0 x.1) (λ q. Locating q) (λ v. values.Definition v) output_level (spot_starts order files order_is one_way t u) definition_advances
-        (definition_embeds order files order_is one_way t u) (omega arith) definition_left definition_falls (λ q. Unit {0})
+        has_answer i (λ (x : Spot order loose files order_is one_way t u). keys.Definition x.0 x.1) (λ q. Locating q) (λ v. values.Definition v) output_level (spot_starts order loose files order_is one_way t u) definition_advances
+        (definition_embeds order loose files order_is one_way t u) (omega arith) definition_left definition_falls (λ q. Unit {0})
         (λ x. ((omega arith, parse_answer x.0), tt)) (λ q a p. definition_asks q a) (f, place)
 
     pub answered : (k : ProtoKey) → Answered k
@@ -161,17 +161,17 @@ module _ (order : ProtoKey → ProtoKey → Ordering) (files : Sources)
     answered (keys.Parse f) = parse_answer f
     answered (keys.Items f) = items_answer f
     answered (keys.Imports f) = (_, (t.imports f _).1 refl)
-    answered (keys.Linked f) = answer_of_links i files (schema order files order_is one_way) (checks order files order_is one_way) t f
+    answered (keys.Linked f) = answer_of_links i loose files (schema order loose files order_is one_way) (checks order loose files order_is one_way) t f
     answered (keys.Defs f) = (_, (t.defs f _).1 refl)
-    answered (keys.Scope f) = answer_of_scope i files (schema order files order_is one_way) (checks order files order_is one_way) t f
+    answered (keys.Scope f) = answer_of_scope i loose files (schema order loose files order_is one_way) (checks order loose files order_is one_way) t f
     answered (keys.Resolved f) = resolved_answer f
     answered (keys.Checks f) = checks_answer f
-    answered (keys.Diagnostics f) = answer_of_diagnostics i files (schema order files order_is one_way) (checks order files order_is one_way) t f
+    answered (keys.Diagnostics f) = answer_of_diagnostics i loose files (schema order loose files order_is one_way) (checks order loose files order_is one_way) t f
     answered (keys.Descriptor f) = descriptor_answer f
     answered (keys.Symbols f) = symbols_answer f
     answered (keys.Definition f place) = definition_answer f place
 
-    pub compiles_means : (k : ProtoKey) (a : A) → Compiles files k a → Means i k a
+    pub compiles_means : (k : ProtoKey) (a : A) → Compiles loose files k a → Means i k a
     compiles_means k a p =
         let b = answered k in
-        subst (Means i k) (compiles_one k b.0 a (means_compiles order files order_is one_way t u k b.0 b.1) p) b.1
+        subst (Means i k) (compiles_one k b.0 a (means_compiles order loose files order_is one_way t u k b.0 b.1) p) b.1

@@ -57,15 +57,15 @@ pub names_back : (ring : List (List ℕ)) → map own_name (map (λ f. keys.Link
 names_back [] = refl
 names_back (f ∷ fs) = ap (λ xs. f ∷ xs) (names_back fs)
 
-module _ (order : ProtoKey → ProtoKey → Ordering) (files : Sources)
+module _ (order : ProtoKey → ProtoKey → Ordering) (loose : Bool) (files : Sources)
     (order_is : (f h : List ℕ) → order (keys.Linked f) (keys.Linked h) ≡ slice_cmp nat_cmp f h) (strict : Strict order) where
   abbrev pub m : Instance ProtoKey ProtoPart ProtoValue
-  m = over order proto_rules files
+  m = over order (proto_rules loose) files
 
   pub one_link : (f h : List ℕ) → keys.Linked f ≡ keys.Linked h → f ≡ h
   one_link f h e = cc
 
-  abbrev pub schema : SchemaSum m files
+  abbrev pub schema : SchemaSum m loose files
   schema = record {
     input = λ f. keys.Input f;
     text_value = λ x. values.Source x;
@@ -86,7 +86,7 @@ module _ (order : ProtoKey → ProtoKey → Ordering) (files : Sources)
     strict = strict.not_both;
   }
 
-  abbrev pub checks : ChecksSum m files schema
+  abbrev pub checks : ChecksSum m loose files schema
   checks = record {
     referred_read = resolved_read;
     ring_files = ring_read;
@@ -116,11 +116,11 @@ module _ (order : ProtoKey → ProtoKey → Ordering) (files : Sources)
   abbrev IsLow : {Q W : Type 0} → Turn ProtoKey Q W → Type 0
   IsLow t = AsksBelow m output_level t
 
-  module _ (t : SchemaMeans m files schema) (u : ChecksMeans m files schema checks) where
-    parsed_is : (f : List ℕ) (a : A) → Means m (keys.Parse f) a → parsed_read a ≡ read_in files f
+  module _ (t : SchemaMeans m loose files schema) (u : ChecksMeans m loose files schema checks) where
+    parsed_is : (f : List ℕ) (a : A) → Means m (keys.Parse f) a → parsed_read a ≡ read_in loose files f
     parsed_is f a h = ap parsed_read ((t.parse f a).0 h)
 
-    itemed_is : (f : List ℕ) (a : A) → Means m (keys.Items f) a → items_read a ≡ items_in files f
+    itemed_is : (f : List ℕ) (a : A) → Means m (keys.Items f) a → items_read a ≡ items_in loose files f
     itemed_is f a h = ap items_read ((t.items f a).0 h)
 
     -- ---- symbols
@@ -128,7 +128,7 @@ module _ (order : ProtoKey → ProtoKey → Ordering) (files : Sources)
     pub symbols_embed : Embeds m (λ f. keys.Symbols f) (λ (q : Unit {0}). Listing) (λ v. values.Symbols v) output_level symbols_starts (λ q a. symbols_advances a)
     symbols_embed = record { level_is = λ x. refl; start_is = λ x. refl; advance_is = λ q a. refl }
 
-    symbols_are : (f : List ℕ) (a : A) → Means m (keys.Symbols f) a → a ≡ Value (values.Symbols (symbols_of (read_in files f)))
+    symbols_are : (f : List ℕ) (a : A) → Means m (keys.Symbols f) a → a ≡ Value (values.Symbols (symbols_of (read_in loose files f)))
     symbols_are f a h =
         let o = once m (λ x. keys.Symbols x) (λ (q : Unit {0}). Listing) (λ v. values.Symbols v) output_level symbols_starts (λ q b. symbols_advances b) symbols_embed
         (λ x. keys.Parse x) (λ x. tt) (λ x b. symbols_of (parsed_read b)) (λ x. refl) (λ x b. refl) (λ x. omega arith) f a h in
@@ -160,39 +160,39 @@ module _ (order : ProtoKey → ProtoKey → Ordering) (files : Sources)
     descriptor_low (descriptors.ReadItems f) a = tree_low f (items_read a) (has_tree (items_read a))
     descriptor_low (descriptors.ReadResolved f i) a = done_below m output_level _
 
-    tree_is : (f : List ℕ) (fs : List Fault) (tree : Bool) → has_tree (items_in files f) ≡ tree → is_failed fs ≡ false → AreFaults files f fs
-        → (es : Trace ProtoKey ProtoValue) (w : List ℕ) → Runs descriptor_advances (tree_turn f (items_in files f) tree) es (Done w)
-        → Each (λ e. Means m e.0 e.1) es → IsDescriptor files f w
+    tree_is : (f : List ℕ) (fs : List Fault) (tree : Bool) → has_tree (items_in loose files f) ≡ tree → is_failed fs ≡ false → AreFaults loose files f fs
+        → (es : Trace ProtoKey ProtoValue) (w : List ℕ) → Runs descriptor_advances (tree_turn f (items_in loose files f) tree) es (Done w)
+        → Each (λ e. Means m e.0 e.1) es → IsDescriptor loose files f w
     tree_is f fs true is sound i es w r reads =
-        let here = items_in files f in
+        let here = items_in loose files f in
         let o = read_one descriptor_advances (keys.Resolved f) (descriptors.ReadResolved f here) es w r reads in
         let rs = (t.resolved f o.0).0 o.2 in
         let end = ended descriptor_advances (described f here (resolved_read o.0)) o.1 w o.3 in
         let by : w ≡ described f here rs.0 = end ∙ ap (λ (a : A). described f here (resolved_read a)) rs.1 in
         (fs, rs.0, i, rs.2, by ∙ sym (ap₂ (λ (b c : Bool). sent b c (described f here rs.0)) is sound))
     tree_is f fs false is sound i es w r reads =
-        let rs = resolved_exist files f in
+        let rs = resolved_exist loose files f in
         let end = ended descriptor_advances (codes "null") es w r in
-        (fs, rs.0, i, rs.1, end ∙ sym (ap₂ (λ (b c : Bool). sent b c (described f (items_in files f) rs.0)) is sound))
+        (fs, rs.0, i, rs.1, end ∙ sym (ap₂ (λ (b c : Bool). sent b c (described f (items_in loose files f) rs.0)) is sound))
 
-    checked_is : (f : List ℕ) (fs : List Fault) (failed : Bool) → is_failed fs ≡ failed → AreFaults files f fs
+    checked_is : (f : List ℕ) (fs : List Fault) (failed : Bool) → is_failed fs ≡ failed → AreFaults loose files f fs
         → (es : Trace ProtoKey ProtoValue) (w : List ℕ) → Runs descriptor_advances (bare_turn f failed) es (Done w)
-        → Each (λ e. Means m e.0 e.1) es → IsDescriptor files f w
+        → Each (λ e. Means m e.0 e.1) es → IsDescriptor loose files f w
     checked_is f fs true is i es w r reads =
-        let rs = resolved_exist files f in
-        let text = described f (items_in files f) rs.0 in
-        let tree = has_tree (items_in files f) in
+        let rs = resolved_exist loose files f in
+        let text = described f (items_in loose files f) rs.0 in
+        let tree = has_tree (items_in loose files f) in
         let end = ended descriptor_advances (codes "null") es w r in
         (fs, rs.0, i, rs.1, end ∙ sym (ap (λ (c : Bool). sent tree c text) is ∙ none_sent tree text))
     checked_is f fs false is i es w r reads =
         let o = read_one descriptor_advances (keys.Items f) (descriptors.ReadItems f) es w r reads in
         let on = subst (λ (p : FileItems). Runs descriptor_advances (tree_turn f p (has_tree p)) o.1 (Done w)) (itemed_is f o.0 o.2) o.3 in
-        tree_is f fs (has_tree (items_in files f)) refl is i o.1 w on o.4
+        tree_is f fs (has_tree (items_in loose files f)) refl is i o.1 w on o.4
 
     pub descriptor_embeds : Embeds m (λ f. keys.Descriptor f) (λ q. Describing q) (λ v. values.Descriptor v) output_level descriptor_starts descriptor_advances
     descriptor_embeds = record { level_is = λ x. refl; start_is = λ x. refl; advance_is = λ q a. refl }
 
-    descriptor_is : (f : List ℕ) (a : A) → Means m (keys.Descriptor f) a → (w : List ℕ) × (a ≡ Value (values.Descriptor w)) × IsDescriptor files f w
+    descriptor_is : (f : List ℕ) (a : A) → Means m (keys.Descriptor f) a → (w : List ℕ) × (a ≡ Value (values.Descriptor w)) × IsDescriptor loose files f w
     descriptor_is f a h =
         let r = lower_runs m (λ x. keys.Descriptor x) (λ q. Describing q) (λ v. values.Descriptor v) output_level descriptor_starts descriptor_advances descriptor_embeds (omega arith)
         (λ x. runs_below m output_level descriptor_advances descriptor_low (descriptor_starts x) (ask_below m output_level (keys.Checks x) (descriptors.ReadChecks x) (omega arith))) f a h in
@@ -218,7 +218,7 @@ module _ (order : ProtoKey → ProtoKey → Ordering) (files : Sources)
     definition_low (definitions.ReadTarget x) a = done_below m output_level _
 
     abbrev located : Option TypeItem → Option Location
-    located x = option_and_then (λ (y : TypeItem). location_of y (read_in files y.file)) x
+    located x = option_and_then (λ (y : TypeItem). location_of y (read_in loose files y.file)) x
 
     target_is : (x : Option TypeItem) (es : Trace ProtoKey ProtoValue) (w : Option Location) → Runs definition_advances (target_turn x) es (Done w)
         → Each (λ e. Means m e.0 e.1) es → w ≡ located x
@@ -227,10 +227,10 @@ module _ (order : ProtoKey → ProtoKey → Ordering) (files : Sources)
         ended definition_advances (location_of x (parsed_read o.0)) o.1 w o.3 ∙ ap (location_of x) (parsed_is x.file o.0 o.2)
     target_is None es w r reads = ended definition_advances None es w r
 
-    references_are : (f : List ℕ) (place : Place) (o : Option ℕ) → offset_at (read_in files f) place ≡ o → (es : Trace ProtoKey ProtoValue) (w : Option Location)
-        → Runs definition_advances (references_turn f (read_in files f) o) es (Done w) → Each (λ e. Means m e.0 e.1) es → IsDefinition files f place w
+    references_are : (f : List ℕ) (place : Place) (o : Option ℕ) → offset_at (read_in loose files f) place ≡ o → (es : Trace ProtoKey ProtoValue) (w : Option Location)
+        → Runs definition_advances (references_turn f (read_in loose files f) o) es (Done w) → Each (λ e. Means m e.0 e.1) es → IsDefinition loose files f place w
     references_are f place (Some offset) is es w r reads =
-        let file = read_in files f in
+        let file = read_in loose files f in
         let o = read_one definition_advances (keys.Resolved f) (definitions.ReadResolved offset file) es w r reads in
         let rs = (t.resolved f o.0).0 o.2 in
         let found = λ (xs : List ResolvedReference). definition_at (nodes_of file) offset xs in
@@ -239,14 +239,14 @@ module _ (order : ProtoKey → ProtoKey → Ordering) (files : Sources)
         let by : w ≡ located (found rs.0) = target_is (found rs.0) o.1 w on o.4 in
         (rs.0, rs.2, by ∙ sym (ap (λ (p : Option ℕ). located (option_and_then (λ (n : ℕ). definition_at (nodes_of file) n rs.0) p)) is))
     references_are f place None is es w r reads =
-        let file = read_in files f in
-        let rs = resolved_exist files f in
+        let file = read_in loose files f in
+        let rs = resolved_exist loose files f in
         let by : w ≡ None = ended definition_advances None es w r in
         (rs.0, rs.1, by ∙ sym (ap (λ (p : Option ℕ). located (option_and_then (λ (n : ℕ). definition_at (nodes_of file) n rs.0) p)) is))
 
     by_file : (f : List ℕ) (place : Place) (es : Trace ProtoKey ProtoValue) (w : Option Location)
-        → Runs definition_advances (references_turn f (read_in files f) (offset_at (read_in files f) place)) es (Done w) → Each (λ e. Means m e.0 e.1) es → IsDefinition files f place w
-    by_file f place es w r reads = references_are f place (offset_at (read_in files f) place) refl es w r reads
+        → Runs definition_advances (references_turn f (read_in loose files f) (offset_at (read_in loose files f) place)) es (Done w) → Each (λ e. Means m e.0 e.1) es → IsDefinition loose files f place w
+    by_file f place es w r reads = references_are f place (offset_at (read_in loose files f) place) refl es w r reads
 
     abbrev pub Spot : Type 0
     Spot = List ℕ × Place
@@ -258,18 +258,18 @@ module _ (order : ProtoKey → ProtoKey → Ordering) (files : Sources)
     definition_embeds = record { level_is = λ x. refl; start_is = λ x. refl; advance_is = λ q a. refl }
 
     definition_is : (f : List ℕ) (place : Place) (a : A) → Means m (keys.Definition f place) a
-        → (w : Option Location) × (a ≡ Value (values.Definition w)) × IsDefinition files f place w
+        → (w : Option Location) × (a ≡ Value (values.Definition w)) × IsDefinition loose files f place w
     definition_is f place a h =
         let r = lower_runs m (λ (x : Spot). keys.Definition x.0 x.1) (λ q. Locating q) (λ v. values.Definition v) output_level spot_starts definition_advances definition_embeds (omega arith)
         (λ x. runs_below m output_level definition_advances definition_low (spot_starts x) (ask_below m output_level (keys.Parse x.0) (definitions.ReadFile x.0 x.1) (omega arith))) (f, place) a h in
         let o = read_one definition_advances (keys.Parse f) (definitions.ReadFile f place) r.0 r.1 r.2 r.4 in
-        let on : Runs definition_advances (references_turn f (read_in files f) (offset_at (read_in files f) place)) o.1 (Done r.1) =
+        let on : Runs definition_advances (references_turn f (read_in loose files f) (offset_at (read_in loose files f) place)) o.1 (Done r.1) =
         subst (λ (p : ParsedFile). Runs definition_advances (references_turn f p (offset_at p place)) o.1 (Done r.1)) (parsed_is f o.0 o.2) o.3 in
         (r.1, r.3, by_file f place o.1 r.1 on o.4)
 
     -- ---- all keys
 
-    pub means_compiles : (k : ProtoKey) (a : A) → Means m k a → Compiles files k a
+    pub means_compiles : (k : ProtoKey) (a : A) → Means m k a → Compiles loose files k a
     means_compiles (keys.Input f) a h = (t.input f a).0 h
     means_compiles (keys.Parse f) a h = (t.parse f a).0 h
     means_compiles (keys.Items f) a h = (t.items f a).0 h

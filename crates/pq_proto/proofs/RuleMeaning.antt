@@ -1,5 +1,5 @@
 -- What the keys of the rule set mean, with the order of its keys: the laws of `src/rule_laws.rt`.
-use Rattle.std.proofs.Common.{◌≡◌, ℕ, List, refl}
+use Rattle.std.proofs.Common.{◌≡◌, ℕ, Bool, List, refl}
 use Rattle.std.specs.Prelude.{◌↔◌}
 use Rattle.std.specs.Cmp.Lexicographic.{slice_cmp}
 use Rattle.std.specs.Ordering.{nat_cmp}
@@ -32,28 +32,28 @@ order_is f h = refl
 one_way : Strict key_order.ghosts.cmp
 one_way = strict key_order.ghosts.cmp total-law
 
-module _ (files : Sources) where
-  schema_is : SchemaMeans (m key_order.ghosts.cmp files order_is one_way) files (schema key_order.ghosts.cmp files order_is one_way)
-  schema_is = schema_means (m key_order.ghosts.cmp files order_is one_way) files (schema key_order.ghosts.cmp files order_is one_way)
+module _ (loose : Bool) (files : Sources) where
+  schema_is : SchemaMeans (m key_order.ghosts.cmp loose files order_is one_way) loose files (schema key_order.ghosts.cmp loose files order_is one_way)
+  schema_is = schema_means (m key_order.ghosts.cmp loose files order_is one_way) loose files (schema key_order.ghosts.cmp loose files order_is one_way)
 
-  checks_are : ChecksMeans (m key_order.ghosts.cmp files order_is one_way) files (schema key_order.ghosts.cmp files order_is one_way) (checks key_order.ghosts.cmp files order_is one_way)
+  checks_are : ChecksMeans (m key_order.ghosts.cmp loose files order_is one_way) loose files (schema key_order.ghosts.cmp loose files order_is one_way) (checks key_order.ghosts.cmp loose files order_is one_way)
   checks_are =
-      checks_mean (m key_order.ghosts.cmp files order_is one_way) files (schema key_order.ghosts.cmp files order_is one_way)
-      (checks key_order.ghosts.cmp files order_is one_way) schema_is
+      checks_mean (m key_order.ghosts.cmp loose files order_is one_way) loose files (schema key_order.ghosts.cmp loose files order_is one_way)
+      (checks key_order.ghosts.cmp loose files order_is one_way) schema_is
 
   -- what a key means is exactly what it compiles to
-  pub proto_means : (k : ProtoKey) (a : A) → Means (over key_order.ghosts.cmp proto_rules files) k a ↔ Compiles files k a
+  pub proto_means : (k : ProtoKey) (a : A) → Means (over key_order.ghosts.cmp (proto_rules loose) files) k a ↔ Compiles loose files k a
   proto_means k a = (
-    means_compiles key_order.ghosts.cmp files order_is one_way schema_is checks_are k a,
-    compiles_means key_order.ghosts.cmp files order_is one_way schema_is checks_are k a,
+    means_compiles key_order.ghosts.cmp loose files order_is one_way schema_is checks_are k a,
+    compiles_means key_order.ghosts.cmp loose files order_is one_way schema_is checks_are k a,
   )
 
   -- a key compiles to one answer
-  pub proto_one : (k : ProtoKey) (a b : A) → Compiles files k a → Compiles files k b → a ≡ b
-  proto_one = compiles_one key_order.ghosts.cmp files order_is one_way schema_is checks_are
+  pub proto_one : (k : ProtoKey) (a b : A) → Compiles loose files k a → Compiles loose files k b → a ≡ b
+  proto_one = compiles_one key_order.ghosts.cmp loose files order_is one_way schema_is checks_are
 
   -- each key compiles to an answer
-  pub proto_some : (k : ProtoKey) → (a : A) × Compiles files k a
+  pub proto_some : (k : ProtoKey) → (a : A) × Compiles loose files k a
   proto_some k =
-      let b = answered key_order.ghosts.cmp files order_is one_way schema_is checks_are k in
-      (b.0, means_compiles key_order.ghosts.cmp files order_is one_way schema_is checks_are k b.0 b.1)
+      let b = answered key_order.ghosts.cmp loose files order_is one_way schema_is checks_are k in
+      (b.0, means_compiles key_order.ghosts.cmp loose files order_is one_way schema_is checks_are k b.0 b.1)

@@ -57,7 +57,8 @@ Reads = List (ProtoKey × Answer ProtoKey ProtoValue)
 -- `null` if it has none
 abbrev pub AfterItems : List ℕ → FileItems → Reads → List ℕ → Type 0
 AfterItems f items.Absent es t = (es ≡ []) × (t ≡ codes "null")
-AfterItems f items.Fault es t = (es ≡ []) × (t ≡ codes "null")
+AfterItems f (items.Fault nodes) es t = (es ≡ []) × (t ≡ codes "null")
+AfterItems f (items.Other nodes) es t = (es ≡ []) × (t ≡ codes "null")
 AfterItems f (items.Tree nodes) es t =
     (a : Answer ProtoKey ProtoValue) × (es ≡ (keys.Resolved f, a) ∷ []) × (t ≡ compact_text (descriptor (resolved_read a) f nodes))
 

@@ -1,5 +1,9 @@
 -- What the files of the sources compile to. The definitions speak of sources, trees and the import
 -- graph; no query is named here.
+--
+-- `loose` is whether braces are read. A text with an error then has the statements that they show:
+-- its imports and definitions, its symbols, and the places that definitions lead to. It has no
+-- descriptor, and its diagnostics are its syntax error.
 use Rattle.std.specs.Prelude.{ℕ, ◌≡◌, Bool, true, false, not, ◌&&◌, cond, List, codes, Option, None, option_and_then}
 use Rattle.std.specs.List.{list_any}
 use Rattle.std.specs.Option.{option_map}
@@ -46,13 +50,13 @@ use Rattle.pq_proto.specs.declared.value.ProtoValue.TheVariants as values
 -- file has the first position alone
 abbrev pub position_in : ParsedFile → ℕ → Position
 position_in Absent offset = record { line = 0; character = 0 }
-position_in (Present p lines) offset = place_in lines offset
+position_in (Present p shown lines) offset = place_in lines offset
 
 -- `offset_at file place` is the offset at `place` in a file that is read as `file`, or `None` if the
 -- file has no such line. A place after the line's end is that end.
 abbrev pub offset_at : ParsedFile → Place → Option ℕ
 offset_at Absent place = None
-offset_at (Present p lines) place = offset_in lines (record { line = place.line; character = place.character })
+offset_at (Present p shown lines) place = offset_in lines (record { line = place.line; character = place.character })
 
 -- `place_at file offset` is the position of `offset` as a place
 abbrev pub place_at : ParsedFile → ℕ → Place
@@ -72,7 +76,8 @@ is_failed fs = list_any (λ (f : Fault). is_severe (severity f.code)) fs
 -- `has_tree i` is whether a file that is `i` without spans has a tree
 abbrev pub has_tree : FileItems → Bool
 has_tree items.Absent = false
-has_tree items.Fault = false
+has_tree (items.Fault nodes) = false
+has_tree (items.Other nodes) = false
 has_tree (items.Tree nodes) = true
 
 -- `is_sent fs i` is whether a file that is `i` without spans, with the errors `fs` by the table, has
@@ -86,11 +91,11 @@ is_sent fs i = has_tree i && not (is_failed fs)
 abbrev pub descriptor_by : List ℕ → List Fault → FileItems → List ResolvedReference → List ℕ
 descriptor_by f fs i references = cond (is_sent fs i) (compact_text (descriptor references f (nodes_in i))) (codes "null")
 
--- `IsDescriptor files f t` is that `t` is the descriptor of the file `f` as a text
-abbrev pub IsDescriptor : Sources → List ℕ → List ℕ → Type 0
-IsDescriptor files f t =
+-- `IsDescriptor loose files f t` is that `t` is the descriptor of the file `f` as a text
+abbrev pub IsDescriptor : Bool → Sources → List ℕ → List ℕ → Type 0
+IsDescriptor loose files f t =
     (fs : List Fault) × (references : List ResolvedReference)
-    × AreFaults files f fs × AreResolved files f references × (t ≡ descriptor_by f fs (items_in files f) references)
+    × AreFaults loose files f fs × AreResolved loose files f references × (t ≡ descriptor_by f fs (items_in loose files f) references)
 
 -- ---- symbols
 
@@ -117,26 +122,26 @@ type_at file place references = option_and_then (λ (o : ℕ). definition_at (no
 abbrev pub definition_by : (List ℕ → ParsedFile) → List ℕ → Place → List ResolvedReference → Option Location
 definition_by read f place references = option_and_then (λ (t : TypeItem). location_of t (read t.file)) (type_at (read f) place references)
 
--- `IsDefinition files f place d` is that `d` is the definition of what is at `place` in the file `f`
-abbrev pub IsDefinition : Sources → List ℕ → Place → Option Location → Type 0
-IsDefinition files f place d =
-    (references : List ResolvedReference) × AreResolved files f references × (d ≡ definition_by (read_in files) f place references)
+-- `IsDefinition loose files f place d` is that `d` is the definition of what is at `place` in the file `f`
+abbrev pub IsDefinition : Bool → Sources → List ℕ → Place → Option Location → Type 0
+IsDefinition loose files f place d =
+    (references : List ResolvedReference) × AreResolved loose files f references × (d ≡ definition_by (read_in loose files) f place references)
 
 -- ---- all keys
 
--- `Compiles files key a` is that the key `key` compiles to the answer `a`. The links of a bad file
+-- `Compiles loose files key a` is that the key `key` compiles to the answer `a`. The links of a bad file
 -- are the cycle of the ring of imports into which it leads.
-abbrev pub Compiles : Sources → ProtoKey → Answer ProtoKey ProtoValue → Type 0
-Compiles files (keys.Input f) a = a ≡ Value (values.Source (file_in files f).text)
-Compiles files (keys.Parse f) a = a ≡ Value (values.Parse (read_in files f))
-Compiles files (keys.Items f) a = a ≡ Value (values.Items (items_in files f))
-Compiles files (keys.Imports f) a = a ≡ Value (values.Imports (graph_of files f))
-Compiles files (keys.Linked f) a = LinkedIs (graph_of files) (λ n. keys.Linked n) (λ l. values.Linked l) f a
-Compiles files (keys.Defs f) a = a ≡ Value (values.Defs (defs_at files f))
-Compiles files (keys.Scope f) a = (s : Scope) × (a ≡ Value (values.Scope s)) × IsScope files f s
-Compiles files (keys.Resolved f) a = (rs : List ResolvedReference) × (a ≡ Value (values.Resolved rs)) × AreResolved files f rs
-Compiles files (keys.Checks f) a = (fs : List Fault) × (a ≡ Value (values.Checks fs)) × AreFaults files f fs
-Compiles files (keys.Diagnostics f) a = (d : Diagnosed) × (a ≡ Value (values.Diagnostics d)) × AreDiagnostics files f d
-Compiles files (keys.Descriptor f) a = (t : List ℕ) × (a ≡ Value (values.Descriptor t)) × IsDescriptor files f t
-Compiles files (keys.Symbols f) a = a ≡ Value (values.Symbols (symbols_of (read_in files f)))
-Compiles files (keys.Definition f place) a = (d : Option Location) × (a ≡ Value (values.Definition d)) × IsDefinition files f place d
+abbrev pub Compiles : Bool → Sources → ProtoKey → Answer ProtoKey ProtoValue → Type 0
+Compiles loose files (keys.Input f) a = a ≡ Value (values.Source (file_in files f).text)
+Compiles loose files (keys.Parse f) a = a ≡ Value (values.Parse (read_in loose files f))
+Compiles loose files (keys.Items f) a = a ≡ Value (values.Items (items_in loose files f))
+Compiles loose files (keys.Imports f) a = a ≡ Value (values.Imports (graph_of loose files f))
+Compiles loose files (keys.Linked f) a = LinkedIs (graph_of loose files) (λ n. keys.Linked n) (λ l. values.Linked l) f a
+Compiles loose files (keys.Defs f) a = a ≡ Value (values.Defs (defs_at loose files f))
+Compiles loose files (keys.Scope f) a = (s : Scope) × (a ≡ Value (values.Scope s)) × IsScope loose files f s
+Compiles loose files (keys.Resolved f) a = (rs : List ResolvedReference) × (a ≡ Value (values.Resolved rs)) × AreResolved loose files f rs
+Compiles loose files (keys.Checks f) a = (fs : List Fault) × (a ≡ Value (values.Checks fs)) × AreFaults loose files f fs
+Compiles loose files (keys.Diagnostics f) a = (d : Diagnosed) × (a ≡ Value (values.Diagnostics d)) × AreDiagnostics loose files f d
+Compiles loose files (keys.Descriptor f) a = (t : List ℕ) × (a ≡ Value (values.Descriptor t)) × IsDescriptor loose files f t
+Compiles loose files (keys.Symbols f) a = a ≡ Value (values.Symbols (symbols_of (read_in loose files f)))
+Compiles loose files (keys.Definition f place) a = (d : Option Location) × (a ≡ Value (values.Definition d)) × IsDefinition loose files f place d

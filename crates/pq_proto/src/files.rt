@@ -11,8 +11,8 @@ use pq_lex::{Position, Span};
 use pq_links::{ParsedFile, Part, place};
 use pq_syntax::{Node, Parsed};
 
-/// The statements of a file that is read as `file`: an absent file has none, and neither has one
-/// with a syntax error.
+/// The statements of a file that is read as `file`: of its tree, or those that braces show. An
+/// absent file has none.
 pub(crate) fn statements(file: &ParsedFile) -> &[Node]
     ensures nodes { result.now ≡ nodes_of file.now }
 {
@@ -21,7 +21,8 @@ pub(crate) fn statements(file: &ParsedFile) -> &[Node]
             parsed: Parsed::Tree(nodes),
             ..
         } => nodes.as_slice(),
-        _ => &[],
+        ParsedFile::Present { shown, .. } => shown.nodes.as_slice(),
+        ParsedFile::Absent => &[],
     }
 }
 
@@ -35,7 +36,8 @@ pub(crate) fn span_in(file: &ParsedFile, item: usize, part: Part) -> Option<Span
             parsed: Parsed::Tree(nodes),
             ..
         } => place(nodes, item, part),
-        _ => None,
+        ParsedFile::Present { shown, .. } => place(&shown.nodes, item, part),
+        ParsedFile::Absent => None,
     }
 }
 
@@ -49,7 +51,8 @@ pub(crate) fn only_at(file: &ParsedFile, offset: usize) -> Option<usize>
             parsed: Parsed::Tree(nodes),
             ..
         } => nodes.only_at(offset),
-        _ => None,
+        ParsedFile::Present { shown, .. } => shown.nodes.only_at(offset),
+        ParsedFile::Absent => None,
     }
 }
 

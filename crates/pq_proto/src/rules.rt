@@ -54,7 +54,11 @@ pub enum ProtoPart {
 
 /// The rule set of proto3 files (the law `proto_values`).
 #[derive(Clone, Copy)]
-pub struct ProtoRules;
+pub struct ProtoRules {
+    /// Whether braces are read: then a text with an error has the imports and the definitions that
+    /// its braces show, and else none.
+    pub loose: bool,
+}
 
 impl Sum for ProtoRules {
     type Key = ProtoKey;
@@ -87,13 +91,13 @@ impl Rules for ProtoRules {
 
     type Part = ProtoPart;
 
-    ghost machine = { λ s. proto_rules };
+    ghost machine = { λ s. proto_rules s.loose };
 
-    ghost reach = { λ s files k. proto_reach files k };
+    ghost reach = { λ s files k. proto_reach s.loose files k };
 
     ghost codes = { proto_code };
 
-    ghost lawful = { λ s files. proto_lawful _ files key_exact };
+    ghost lawful = { λ s files. proto_lawful _ s.loose files key_exact };
 
     ghost inputs = { λ s k. proto_inputs k };
 
@@ -159,7 +163,11 @@ impl Rules for ProtoRules {
     ) -> Result<Turn<ProtoKey, ProtoPart, ProtoValue>, Memory> {
         match key {
             ProtoKey::Input(_) => Ok(Turn::Done(ProtoValue::Source(None))),
-            ProtoKey::Parse(file) => start_of::<Self, _>(alloc, &ParseQuery::<Self>::new(), file),
+            ProtoKey::Parse(file) => start_of::<Self, _>(
+                alloc,
+                &ParseQuery::<Self>::new(self.loose),
+                file,
+            ),
             ProtoKey::Items(file) => start_of::<Self, _>(alloc, &ItemsQuery::<Self>::new(), file),
             ProtoKey::Imports(file) => start_of::<Self, _>(
                 alloc,
@@ -194,7 +202,7 @@ impl Rules for ProtoRules {
     ) -> Result<Turn<ProtoKey, ProtoPart, ProtoValue>, ProtoPart> {
         match part {
             ProtoPart::Parsing => {
-                advance_of::<Self, _>(alloc, &ParseQuery::<Self>::new(), (), answer)
+                advance_of::<Self, _>(alloc, &ParseQuery::<Self>::new(self.loose), (), answer)
             }
             ProtoPart::Itemizing => {
                 advance_of::<Self, _>(alloc, &ItemsQuery::<Self>::new(), (), answer)

@@ -110,7 +110,8 @@ fn print_symbol(
 /// The text of the list of the symbols of a file that is read as `file` (Language Server Protocol
 /// 3.17, "Document Symbols Request").
 ///
-/// It is JSON without white space, and `[]` for an absent file and for one with a syntax error. Only
+/// It is JSON without white space, and `[]` for an absent file. Of a text with a syntax error it has
+/// what braces show, if they are read. Only
 /// `Memory` is an error, after an allocation failure.
 #[tactic(auto, using(crate::proofs::ListSteps::list_tokens))]
 pub fn symbols_text(alloc: Global, file: &ParsedFile) -> Result<Text, Memory>

@@ -1,6 +1,6 @@
 //! Laws of the text of a file, each as the contract of a function that does nothing: its positions,
 //! and its tree as nested bodies.
-ghost use Rattle.std.specs.Prelude.{◌≡◌, ◌≤◌, List, [], Some, length, ℕ};
+ghost use Rattle.std.specs.Prelude.{◌≡◌, ◌≤◌, Bool, List, [], Some, length, ℕ};
 ghost use Rattle.pq_lex.specs.Lines.{IsOffset, position_of};
 ghost use Rattle.pq_links.specs.Files.{read_file};
 ghost use Rattle.pq_proto.specs.Bodies.{body_of, placed_in};
@@ -19,8 +19,8 @@ pub fn places_of_text()
     // `position`, `offset`: In a file with a text, each offset up to the text's end has its
     // position in that text. The offset at a place is the largest one at or before it in the text,
     // or `None` if the text has no such line.
-    ensures position { (text : List ℕ) (offset : ℕ) → offset ≤ length text → position_in (read_file (Some text)) offset ≡ position_of text offset }
-    ensures offset { (text : List ℕ) (place : PlaceContents) → IsOffset text (record { line = place.line; character = place.character }) (offset_at (read_file (Some text)) place) }
+    ensures position { (loose : Bool) (text : List ℕ) (offset : ℕ) → offset ≤ length text → position_in (read_file loose (Some text)) offset ≡ position_of text offset }
+    ensures offset { (loose : Bool) (text : List ℕ) (place : PlaceContents) → IsOffset text (record { line = place.line; character = place.character }) (offset_at (read_file loose (Some text)) place) }
 {
     positions_of_lines();
     offsets_of_lines();

@@ -1,6 +1,6 @@
 -- The rule set of this crate is a sum that embeds the queries of a schema, so its keys mean what
 -- they compile to.
-use Rattle.std.proofs.Common.{◌≡◌, ℕ, List, refl}
+use Rattle.std.proofs.Common.{◌≡◌, ℕ, false, List, refl}
 use Rattle.std.specs.Prelude.{◌↔◌}
 use Rattle.std.specs.Cmp.Lexicographic.{slice_cmp}
 use Rattle.std.specs.Ordering.{nat_cmp}
@@ -29,7 +29,7 @@ module _ (order : SchemaKey → SchemaKey → Ordering) (files : Sources)
   one_link : (f h : List ℕ) → Linked f ≡ Linked h → f ≡ h
   one_link f h e = cc
 
-  abbrev sum : SchemaSum m files
+  abbrev sum : SchemaSum m false files
   sum = record {
     input = λ f. Input f;
     text_value = λ x. values.Source x;
@@ -50,11 +50,11 @@ module _ (order : SchemaKey → SchemaKey → Ordering) (files : Sources)
     strict = strict.not_both;
   }
 
-  t : SchemaMeans m files sum
-  t = schema_means m files sum
+  t : SchemaMeans m false files sum
+  t = schema_means m false files sum
 
   -- the answers of the rule set are exactly what its keys compile to
-  pub means_compiles : (k : SchemaKey) (a : Answer SchemaKey SchemaValue) → Means m k a ↔ Compiles files k a
+  pub means_compiles : (k : SchemaKey) (a : Answer SchemaKey SchemaValue) → Means m k a ↔ Compiles false files k a
   means_compiles (Input f) a = t.input f a
   means_compiles (Parse f) a = t.parse f a
   means_compiles (Items f) a = t.items f a

@@ -1,6 +1,6 @@
 -- What the keys of a schema mean in every sum that embeds its queries: exactly what the files
 -- compile to by `specs/Compile`.
-use Rattle.std.proofs.Common.{◌≡◌, ℕ, ◌<◌, List, map, refl, sym, ap, subst, ◌∙◌, inl, inr, arith}
+use Rattle.std.proofs.Common.{◌≡◌, ℕ, Bool, ◌<◌, List, map, refl, sym, ap, subst, ◌∙◌, inl, inr, arith}
 use Rattle.pq_inputs.specs.Sources.{Sources, file_in}
 use Rattle.pq_rules.specs.declared.turn.Answer.{Answer}
 use Rattle.pq_rules.specs.declared.turn.Answer.TheVariants.{Value, Cycle}
@@ -30,7 +30,7 @@ use Rattle.pq_schema.proofs.ResolvedMeaning.{resolved_is, is_resolved}
 use Rattle.pq_schema.proofs.Picked.{scope_defined}
 use Rattle.pq_schema.specs.SchemaSum.{SchemaSum, SchemaMeans}
 
-module _ {K P V : Type 0} (m : Instance K P V) (files : Sources) (s : SchemaSum m files) where
+module _ {K P V : Type 0} (m : Instance K P V) (loose : Bool) (files : Sources) (s : SchemaSum m loose files) where
   low : {x : K} (n l : ℕ) → m.level x ≡ n → n < l → m.level x < l
   low n l e h = subst (λ (i : ℕ). i < l) (sym e) h
 
@@ -50,46 +50,46 @@ module _ {K P V : Type 0} (m : Instance K P V) (files : Sources) (s : SchemaSum 
   -- ---- the queries of one read
 
   -- what a file is read as
-  parsed : HasValue m s.parse.key s.parse.value s.parse.read (λ f. read_in files f)
+  parsed : HasValue m s.parse.key s.parse.value s.parse.read (λ f. read_in loose files f)
   parsed =
-      asked_once m s.parse s.input (λ f. tt) s.text_read read_file (λ f. refl) (λ f a. refl) input_low
+      asked_once m s.parse s.input (λ f. tt) s.text_read (read_file loose) (λ f. refl) (λ f a. refl) input_low
       (λ f. (file_in files f).text) text_is (λ f. (Value (s.text_value (file_in files f).text), is_input f))
 
   parse_low : (f : List ℕ) → m.level (s.parse.key f) < items_level
   parse_low f = low parse_level items_level (s.parse.embeds.level_is f) (omega arith)
 
   -- the same without spans
-  itemed : HasValue m s.items.key s.items.value s.items.read (λ f. items_in files f)
+  itemed : HasValue m s.items.key s.items.value s.items.read (λ f. items_in loose files f)
   itemed =
       asked_once m s.items s.parse.key (λ f. tt) s.parse.read items_of (λ f. refl) (λ f a. refl) parse_low
-      (λ f. read_in files f) parsed.read_is (λ f. (Value (s.parse.value (read_in files f)), parsed.means f))
+      (λ f. read_in loose files f) parsed.read_is (λ f. (Value (s.parse.value (read_in loose files f)), parsed.means f))
 
   items_low : (l : ℕ) → items_level < l → (f : List ℕ) → m.level (s.items.key f) < l
   items_low l h f = low items_level l (s.items.embeds.level_is f) h
 
   have_items : (f : List ℕ) → (a : Answer K V) × Means m (s.items.key f) a
-  have_items f = (Value (s.items.value (items_in files f)), itemed.means f)
+  have_items f = (Value (s.items.value (items_in loose files f)), itemed.means f)
 
   -- the imports of a file
-  imported : HasValue m s.imports.key s.imports.value s.imports.read (λ f. graph_of files f)
+  imported : HasValue m s.imports.key s.imports.value s.imports.read (λ f. graph_of loose files f)
   imported =
       asked_once m s.imports s.items.key (λ f. tt) s.items.read file_imports (λ f. refl) (λ f a. refl) (items_low imports_level (omega arith))
-      (λ f. items_in files f) itemed.read_is have_items
+      (λ f. items_in loose files f) itemed.read_is have_items
 
   have_imports : (f : List ℕ) → (a : Answer K V) × Means m (s.imports.key f) a
-  have_imports f = (Value (s.imports.value (graph_of files f)), imported.means f)
+  have_imports f = (Value (s.imports.value (graph_of loose files f)), imported.means f)
 
   -- the definitions of a file
-  defined : HasValue m s.defs.key s.defs.value s.defs.read (λ f. defs_at files f)
+  defined : HasValue m s.defs.key s.defs.value s.defs.read (λ f. defs_at loose files f)
   defined =
       asked_once m s.defs s.items.key (λ f. tt) s.items.read (λ i. defs_of (nodes_in i)) (λ f. refl) (λ f a. refl) (items_low defs_level (omega arith))
-      (λ f. items_in files f) itemed.read_is have_items
+      (λ f. items_in loose files f) itemed.read_is have_items
 
   have_defs : (f : List ℕ) → (a : Answer K V) × Means m (s.defs.key f) a
-  have_defs f = (Value (s.defs.value (defs_at files f)), defined.means f)
+  have_defs f = (Value (s.defs.value (defs_at loose files f)), defined.means f)
 
   -- ---- the links of a file
-  abbrev links : EmbedsLinks m (graph_of files) s.imports.key s.imports.read linked_level
+  abbrev links : EmbedsLinks m (graph_of loose files) s.imports.key s.imports.read linked_level
   links = record {
     linked = s.linked;
     graph_is = imported.read_is;
@@ -98,16 +98,16 @@ module _ {K P V : Type 0} (m : Instance K P V) (files : Sources) (s : SchemaSum 
     order_is = s.order_is;
   }
 
-  linked_means : (f : List ℕ) (a : Answer K V) → Means m (s.linked.key f) a → LinkedIs (graph_of files) s.linked.key s.linked.value f a
-  linked_means = linked_is m (graph_of files) s.imports.key s.imports.read linked_level links (record { not_both = s.strict })
+  linked_means : (f : List ℕ) (a : Answer K V) → Means m (s.linked.key f) a → LinkedIs (graph_of loose files) s.linked.key s.linked.value f a
+  linked_means = linked_is m (graph_of loose files) s.imports.key s.imports.read linked_level links (record { not_both = s.strict })
 
-  means_linked : (f : List ℕ) (a : Answer K V) → LinkedIs (graph_of files) s.linked.key s.linked.value f a → Means m (s.linked.key f) a
-  means_linked = is_linked m (graph_of files) s.imports.key s.imports.read linked_level links have_imports (record { not_both = s.strict })
+  means_linked : (f : List ℕ) (a : Answer K V) → LinkedIs (graph_of loose files) s.linked.key s.linked.value f a → Means m (s.linked.key f) a
+  means_linked = is_linked m (graph_of loose files) s.imports.key s.imports.read linked_level links have_imports (record { not_both = s.strict })
 
-  is_good : (f : List ℕ) (l : Links) → AreLinks (graph_of files) f l → Means m (s.linked.key f) (Value (s.linked.value l))
+  is_good : (f : List ℕ) (l : Links) → AreLinks (graph_of loose files) f l → Means m (s.linked.key f) (Value (s.linked.value l))
   is_good f l i = means_linked f (Value (s.linked.value l)) (l, refl, i)
 
-  is_ring : (f : List ℕ) (ring : List (List ℕ)) → IsRingOf (graph_of files) f ring → Means m (s.linked.key f) (Cycle (map s.linked.key ring))
+  is_ring : (f : List ℕ) (ring : List (List ℕ)) → IsRingOf (graph_of loose files) f ring → Means m (s.linked.key f) (Cycle (map s.linked.key ring))
   is_ring f ring i = means_linked f (Cycle (map s.linked.key ring)) (ring, refl, i)
 
   -- ---- the scope of a file
@@ -119,32 +119,32 @@ module _ {K P V : Type 0} (m : Instance K P V) (files : Sources) (s : SchemaSum 
 
   -- `scope_from l` is the scope that the rule makes of the links `l`
   abbrev scope_from : Links → Scope
-  scope_from l = scope_by l.visible (map (with_defs (defs_at files)) l.reach)
+  scope_from l = scope_by l.visible (map (with_defs (defs_at loose files)) l.reach)
 
-  reaches : (f : List ℕ) (l : Links) → AreLinks (graph_of files) f l → Reaches l
-  reaches f l i = subst Reaches (sym i.2) (all_reached (graph_of files) i.0 f)
+  reaches : (f : List ℕ) (l : Links) → AreLinks (graph_of loose files) f l → Reaches l
+  reaches f l i = subst Reaches (sym i.2) (all_reached (graph_of loose files) i.0 f)
 
-  by_links : (f : List ℕ) (b : Answer K V) → LinkedIs (graph_of files) s.linked.key s.linked.value f b → IsScope files f (scope_from (s.linked.read b))
+  by_links : (f : List ℕ) (b : Answer K V) → LinkedIs (graph_of loose files) s.linked.key s.linked.value f b → IsScope loose files f (scope_from (s.linked.read b))
   by_links f (Value v) i =
       let read : s.linked.read (Value v) ≡ i.0 = ap (λ (x : V). s.linked.read (Value x)) i.1 ∙ s.linked.back i.0 in
-      inl (i.0, i.2, ap scope_from read ∙ scope_defined (defs_at files) i.0 (reaches f i.0 i.2))
+      inl (i.0, i.2, ap scope_from read ∙ scope_defined (defs_at loose files) i.0 (reaches f i.0 i.2))
   by_links f (Cycle r) i = inr (i.0, i.2, ap scope_from (s.ring_read r))
 
-  scope_means : (f : List ℕ) (a : Answer K V) → Means m (s.scope.key f) a → (w : Scope) × (a ≡ Value (s.scope.value w)) × IsScope files f w
+  scope_means : (f : List ℕ) (a : Answer K V) → Means m (s.scope.key f) a → (w : Scope) × (a ≡ Value (s.scope.value w)) × IsScope loose files f w
   scope_means f a h =
-      let r = scope_is m s.linked.key s.defs.key s.scope.key s.scope.part s.scope.value s.linked.read s.defs.read (defs_at files) scope_level s.scope.embeds
+      let r = scope_is m s.linked.key s.defs.key s.scope.key s.scope.part s.scope.value s.linked.read s.defs.read (defs_at loose files) scope_level s.scope.embeds
       defined.read_is above_links above_defs f a h in
       (scope_from (s.linked.read r.0), r.2, by_links f r.0 (linked_means f r.0 r.1))
 
   means_from : (f : List ℕ) (b : Answer K V) → Means m (s.linked.key f) b → Means m (s.scope.key f) (Value (s.scope.value (scope_from (s.linked.read b))))
   means_from f b h =
-      is_scope m s.linked.key s.defs.key s.scope.key s.scope.part s.scope.value s.linked.read s.defs.read (defs_at files) scope_level s.scope.embeds
+      is_scope m s.linked.key s.defs.key s.scope.key s.scope.part s.scope.value s.linked.read s.defs.read (defs_at loose files) scope_level s.scope.embeds
       defined.read_is above_links above_defs have_defs f b h
 
-  means_scope : (f : List ℕ) (w : Scope) → IsScope files f w → Means m (s.scope.key f) (Value (s.scope.value w))
+  means_scope : (f : List ℕ) (w : Scope) → IsScope loose files f w → Means m (s.scope.key f) (Value (s.scope.value w))
   means_scope f w (inl i) =
       let read : scope_from (s.linked.read (Value (s.linked.value i.0))) ≡ w =
-      ap scope_from (s.linked.back i.0) ∙ scope_defined (defs_at files) i.0 (reaches f i.0 i.1) ∙ sym i.2 in
+      ap scope_from (s.linked.back i.0) ∙ scope_defined (defs_at loose files) i.0 (reaches f i.0 i.1) ∙ sym i.2 in
       subst (λ (x : Scope). Means m (s.scope.key f) (Value (s.scope.value x))) read (means_from f (Value (s.linked.value i.0)) (is_good f i.0 i.1))
   means_scope f w (inr i) =
       let ring = map s.linked.key i.0 in
@@ -155,13 +155,13 @@ module _ {K P V : Type 0} (m : Instance K P V) (files : Sources) (s : SchemaSum 
   above_scope : (f : List ℕ) → m.level (s.scope.key f) < resolved_level
   above_scope f = low scope_level resolved_level (s.scope.embeds.level_is f) (omega arith)
 
-  resolved_means : (f : List ℕ) (a : Answer K V) → Means m (s.resolved.key f) a → (rs : List ResolvedReference) × (a ≡ Value (s.resolved.value rs)) × AreResolved files f rs
+  resolved_means : (f : List ℕ) (a : Answer K V) → Means m (s.resolved.key f) a → (rs : List ResolvedReference) × (a ≡ Value (s.resolved.value rs)) × AreResolved loose files f rs
   resolved_means f a h =
       let r = resolved_is m s.scope.key s.items.key s.resolved.key s.resolved.part s.resolved.value s.scope.read (λ b. nodes_in (s.items.read b)) resolved_level s.resolved.embeds
       above_scope (items_low resolved_level (omega arith)) f a h in
       let w = scope_means f r.0 r.2 in
       let scope_at : s.scope.read r.0 ≡ w.0 = ap s.scope.read w.1 ∙ s.scope.back w.0 in
-      let file : s.items.read r.1 ≡ items_in files f = itemed.read_is f r.1 r.3 in (
+      let file : s.items.read r.1 ≡ items_in loose files f = itemed.read_is f r.1 r.3 in (
         resolved_by (s.scope.read r.0) (nodes_in (s.items.read r.1)),
         r.4,
         (
@@ -172,20 +172,20 @@ module _ {K P V : Type 0} (m : Instance K P V) (files : Sources) (s : SchemaSum 
         ),
       )
 
-  means_resolved : (f : List ℕ) (rs : List ResolvedReference) → AreResolved files f rs → Means m (s.resolved.key f) (Value (s.resolved.value rs))
+  means_resolved : (f : List ℕ) (rs : List ResolvedReference) → AreResolved loose files f rs → Means m (s.resolved.key f) (Value (s.resolved.value rs))
   means_resolved f rs i =
       let b : Answer K V = Value (s.scope.value i.0) in
-      let c : Answer K V = Value (s.items.value (items_in files f)) in
+      let c : Answer K V = Value (s.items.value (items_in loose files f)) in
       let made = is_resolved m s.scope.key s.items.key s.resolved.key s.resolved.part s.resolved.value s.scope.read (λ x. nodes_in (s.items.read x)) resolved_level s.resolved.embeds
       above_scope (items_low resolved_level (omega arith)) f b c (means_scope f i.0 i.1) (itemed.means f) in
       let same : resolved_by (s.scope.read b) (nodes_in (s.items.read c)) ≡ rs =
       ap (λ (x : Scope). resolved_by x (nodes_in (s.items.read c))) (s.scope.back i.0)
-      ∙ ap (λ (x : FileItems). resolved_by i.0 (nodes_in x)) (s.items.back (items_in files f))
+      ∙ ap (λ (x : FileItems). resolved_by i.0 (nodes_in x)) (s.items.back (items_in loose files f))
       ∙ sym i.2 in
       subst (λ (x : List ResolvedReference). Means m (s.resolved.key f) (Value (s.resolved.value x))) same made
 
   -- the answers of the sum are exactly what the files compile to
-  pub schema_means : SchemaMeans m files s
+  pub schema_means : SchemaMeans m loose files s
   schema_means = record {
     input = λ f a. (input_is f a, λ e. subst (Means m (s.input f)) (sym e) (is_input f));
     parse = λ f a. (parsed.is f a, λ e. subst (Means m (s.parse.key f)) (sym e) (parsed.means f));

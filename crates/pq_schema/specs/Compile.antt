@@ -1,6 +1,9 @@
 -- What the files of the sources compile to, up to the resolution of their references. The
 -- definitions speak of sources, trees and the import graph; no query is named here.
-use Rattle.std.specs.Prelude.{ℕ, ◌≡◌, ◌⊎◌, List, map}
+--
+-- `loose` is whether braces are read. Then a text with an error has the statements that they show,
+-- and else none.
+use Rattle.std.specs.Prelude.{ℕ, Bool, ◌≡◌, ◌⊎◌, List, map}
 use Rattle.pq_inputs.specs.Sources.{Sources, file_in}
 use Rattle.pq_rules.specs.declared.turn.Answer.{Answer}
 use Rattle.pq_rules.specs.declared.turn.Answer.TheVariants.{Value}
@@ -24,14 +27,14 @@ use Rattle.pq_schema.specs.declared.queries.rules.SchemaValue.{SchemaValue}
 use Rattle.pq_schema.specs.declared.queries.rules.SchemaValue.TheVariants as values
 use Rattle.pq_schema.specs.declared.scope.scope.FileDefs.{FileDefs}
 
--- `nodes_at files f` is the statements of the file `f`, without spans
-abbrev pub nodes_at : Sources → List ℕ → List Node
-nodes_at files f = nodes_in (items_in files f)
+-- `nodes_at loose files f` is the statements of the file `f`, without spans
+abbrev pub nodes_at : Bool → Sources → List ℕ → List Node
+nodes_at loose files f = nodes_in (items_in loose files f)
 
--- `defs_at files f` is the package and the definitions of the file `f`; a file that is absent or
--- has a syntax error has neither
-abbrev pub defs_at : Sources → List ℕ → Defs
-defs_at files f = defs_of (nodes_at files f)
+-- `defs_at loose files f` is the package and the definitions of the file `f`; an absent file has
+-- neither
+abbrev pub defs_at : Bool → Sources → List ℕ → Defs
+defs_at loose files f = defs_of (nodes_at loose files f)
 
 -- `with_defs defined f` is the file `f` with its definitions, where `defined` gives those of a file
 abbrev pub with_defs : (List ℕ → Defs) → List ℕ → FileDefs
@@ -45,12 +48,12 @@ scope_of_links defined l = record {
   reach = map (with_defs defined) l.reach;
 }
 
--- `IsScope files f s` is that `s` is the scope of the file `f`. A bad file, whose imports lead into
+-- `IsScope loose files f s` is that `s` is the scope of the file `f`. A bad file, whose imports lead into
 -- a ring, sees and reaches no file.
-abbrev pub IsScope : Sources → List ℕ → Scope → Type 0
-IsScope files f s =
-    ((l : Links) × AreLinks (graph_of files) f l × (s ≡ scope_of_links (defs_at files) l))
-    ⊎ ((ring : List (List ℕ)) × IsRingOf (graph_of files) f ring × (s ≡ no_scope))
+abbrev pub IsScope : Bool → Sources → List ℕ → Scope → Type 0
+IsScope loose files f s =
+    ((l : Links) × AreLinks (graph_of loose files) f l × (s ≡ scope_of_links (defs_at loose files) l))
+    ⊎ ((ring : List (List ℕ)) × IsRingOf (graph_of loose files) f ring × (s ≡ no_scope))
 
 -- `resolved_in s r` is the reference `r` with what it resolves to in the scope `s`
 abbrev pub resolved_in : Scope → Reference → ResolvedReference
@@ -60,20 +63,20 @@ resolved_in s r = record {
   resolution = resolution_of (lookup s r.within r.name);
 }
 
--- `AreResolved files f rs` is that `rs` lists the type references of the file `f`, each with what
+-- `AreResolved loose files f rs` is that `rs` lists the type references of the file `f`, each with what
 -- it resolves to in the scope of the file, in text order
-abbrev pub AreResolved : Sources → List ℕ → List ResolvedReference → Type 0
-AreResolved files f rs =
-    (s : Scope) × IsScope files f s × (rs ≡ map (resolved_in s) (references_of (nodes_at files f)))
+abbrev pub AreResolved : Bool → Sources → List ℕ → List ResolvedReference → Type 0
+AreResolved loose files f rs =
+    (s : Scope) × IsScope loose files f s × (rs ≡ map (resolved_in s) (references_of (nodes_at loose files f)))
 
--- `Compiles files key a` is that the key `key` compiles to the answer `a`. The links of a bad file
+-- `Compiles loose files key a` is that the key `key` compiles to the answer `a`. The links of a bad file
 -- are the cycle of the ring of imports into which it leads.
-abbrev pub Compiles : Sources → SchemaKey → Answer SchemaKey SchemaValue → Type 0
-Compiles files (keys.Input f) a = a ≡ Value (values.Source (file_in files f).text)
-Compiles files (keys.Parse f) a = a ≡ Value (values.Parse (read_in files f))
-Compiles files (keys.Items f) a = a ≡ Value (values.Items (items_in files f))
-Compiles files (keys.Imports f) a = a ≡ Value (values.Imports (graph_of files f))
-Compiles files (keys.Linked f) a = LinkedIs (graph_of files) (λ n. keys.Linked n) (λ l. values.Linked l) f a
-Compiles files (keys.Defs f) a = a ≡ Value (values.Defs (defs_at files f))
-Compiles files (keys.Scope f) a = (s : Scope) × (a ≡ Value (values.Scope s)) × IsScope files f s
-Compiles files (keys.Resolved f) a = (rs : List ResolvedReference) × (a ≡ Value (values.Resolved rs)) × AreResolved files f rs
+abbrev pub Compiles : Bool → Sources → SchemaKey → Answer SchemaKey SchemaValue → Type 0
+Compiles loose files (keys.Input f) a = a ≡ Value (values.Source (file_in files f).text)
+Compiles loose files (keys.Parse f) a = a ≡ Value (values.Parse (read_in loose files f))
+Compiles loose files (keys.Items f) a = a ≡ Value (values.Items (items_in loose files f))
+Compiles loose files (keys.Imports f) a = a ≡ Value (values.Imports (graph_of loose files f))
+Compiles loose files (keys.Linked f) a = LinkedIs (graph_of loose files) (λ n. keys.Linked n) (λ l. values.Linked l) f a
+Compiles loose files (keys.Defs f) a = a ≡ Value (values.Defs (defs_at loose files f))
+Compiles loose files (keys.Scope f) a = (s : Scope) × (a ≡ Value (values.Scope s)) × IsScope loose files f s
+Compiles loose files (keys.Resolved f) a = (rs : List ResolvedReference) × (a ≡ Value (values.Resolved rs)) × AreResolved loose files f rs

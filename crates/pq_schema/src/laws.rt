@@ -3,7 +3,7 @@
 //! A law of a query is of every sum of queries `S` and of every list `es` of questions with their
 //! answers by which the query's own rule runs from its start to a value. It says what the questions
 //! were, in order, and that the value is the definition, applied to what these answers say.
-ghost use Rattle.std.specs.Prelude.{◌≡◌, List, ℕ, ◌↔◌, true};
+ghost use Rattle.std.specs.Prelude.{◌≡◌, Bool, List, ℕ, ◌↔◌, false, true};
 ghost use Rattle.pq_inputs.specs.Sources.{Sources};
 ghost use Rattle.pq_rules.specs.declared.turn.Answer.{Answer};
 ghost use Rattle.pq_rules.specs.declared.turn.Turn.TheVariants.{Done};
@@ -72,14 +72,15 @@ pub fn rings_are_bad()
 /// exactly what the files compile to.
 pub fn schema_in_rules<R: Rules>(_rules: &R)
     // What `schema_values` says, in every rule set that embeds the seven queries, so in every
-    // larger one.
-    ensures means { (files : Sources) (s : SchemaSum (over R.Key.cmp (R.machine _rules.now) files) files) → SchemaMeans (over R.Key.cmp (R.machine _rules.now) files) files s }
+    // larger one, whether its parse reads braces or not.
+    ensures means { (loose : Bool) (files : Sources) (s : SchemaSum (over R.Key.cmp (R.machine _rules.now) files) loose files) → SchemaMeans (over R.Key.cmp (R.machine _rules.now) files) loose files s }
 {}
 
 /// At all sources, what a key of the rule set means is exactly what it compiles to.
 pub fn schema_values()
-    // At all sources, what a key of `SchemaRules` means is exactly what it compiles to. The keys
+    // At all sources, what a key of `SchemaRules` means is exactly what it compiles to, where braces
+    // are not read. The keys
     // are those of a file's text, parse, tree without spans, imports, links or ring, definitions,
     // scope and resolved references.
-    ensures means { (files : Sources) (key : SchemaKey) (a : Answer SchemaKey SchemaValue) → Means (over ⟦<SchemaKey as Ord>⟧.cmp schema_rules files) key a ↔ Compiles files key a }
+    ensures means { (files : Sources) (key : SchemaKey) (a : Answer SchemaKey SchemaValue) → Means (over ⟦<SchemaKey as Ord>⟧.cmp schema_rules files) key a ↔ Compiles false files key a }
 {}

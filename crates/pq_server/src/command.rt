@@ -12,6 +12,8 @@ pub(crate) enum Task<'a> {
     Script {
         /// The folder of the library, if there is one.
         library: Option<&'a str>,
+        /// Whether braces are read.
+        loose: bool,
     },
     /// Many clients, each on its own connection.
     Listen {
@@ -23,6 +25,8 @@ pub(crate) enum Task<'a> {
         library: Option<&'a str>,
         /// The number of sessions after which the server ends, at least 1. `None` if it does not end.
         sessions: Option<u32>,
+        /// Whether braces are read.
+        loose: bool,
     },
     /// One editor on the standard streams.
     Stdio {
@@ -42,11 +46,20 @@ fn library<'a>(alloc: Global) -> Arg<'a> {
         .action(ArgAction::Set)
 }
 
+/// The option that has braces read.
+fn loose<'a>(alloc: Global) -> Arg<'a> {
+    Arg::new(alloc, "loose")
+        .long("loose")
+        .help("shows the definitions of files with an error, and of other versions, as stdio does")
+        .action(ArgAction::SetTrue)
+}
+
 /// The subcommand `script`, as `clap` describes it.
 fn script<'a>(alloc: Global) -> Result<Command<'a>, Error> {
     let script = Command::new(alloc, "script")
         .about("answers the frames of standard input on standard output")
-        .arg(library(alloc))?;
+        .arg(library(alloc))?
+        .arg(loose(alloc))?;
     Ok(script)
 }
 
@@ -74,7 +87,8 @@ fn listen<'a>(alloc: Global) -> Result<Command<'a>, Error> {
         .arg(port)?
         .arg(workers)?
         .arg(library(alloc))?
-        .arg(sessions)?;
+        .arg(sessions)?
+        .arg(loose(alloc))?;
     Ok(listen)
 }
 
@@ -123,6 +137,7 @@ fn listen_task<'a>(given: &ArgMatches<'a>) -> Task<'a> {
         workers: given.get_one("workers").unwrap_or(1),
         library: given.get_str("lib"),
         sessions: given.get_one("sessions"),
+        loose: given.get_flag("loose"),
     }
 }
 
@@ -148,7 +163,11 @@ pub(crate) fn task_of<'a>(words: &'a [String], alloc: Global) -> Result<Task<'a>
         Some(("stdio", given)) => stdio_task(alloc, given),
         Some((_, given)) => Ok(Task::Script {
             library: given.get_str("lib"),
+            loose: given.get_flag("loose"),
         }),
-        None => Ok(Task::Script { library: None }),
+        None => Ok(Task::Script {
+            library: None,
+            loose: false,
+        }),
     }
 }

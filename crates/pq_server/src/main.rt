@@ -21,6 +21,8 @@ use library::{
     Failure, LibraryFault, absolute_of, no_library, read_library, run_library_script, say,
 };
 use log::Log;
+use pq_hall::{HallRules, Loose, Strict};
+use pq_proto::ProtoRules;
 use pq_session::{Counted, Root};
 use serving::{OpenGate, Size, serve};
 use status::{
@@ -39,22 +41,20 @@ fn words(rt: &(impl Env + AllocGlobal)) -> io::Result<Vec<String>> {
     Ok(env::args(rt)?.collect(rt.alloc())?)
 }
 
-/// Serves one client on the standard streams. Returns the exit status.
-fn run_on_streams(rt: HostRuntime, library: Option<&str>) -> u8 {
+/// Serves one client on the standard streams, and reads braces if `loose` is true. Returns the exit
+/// status.
+fn run_on_streams(rt: HostRuntime, library: Option<&str>, loose: bool) -> u8 {
     let alloc = rt.alloc();
+    let rules = ProtoRules { loose };
     let mut input = Counted::new(rt.stdin());
     let mut output = Counted::new(rt.stdout());
     let mut errors = Counted::new(rt.stderr());
-    match library {
-        None => run_script(alloc, &mut input, &mut output, &mut errors),
-        Some(dir) => run_library_script(
-            alloc,
-            read_library(&rt, dir),
-            &mut input,
-            &mut output,
-            &mut errors,
-        ),
-    }
+    let library = match library {
+        None if !loose => return run_script(alloc, &mut input, &mut output, &mut errors),
+        None => no_library(alloc),
+        Some(dir) => read_library(&rt, dir),
+    };
+    run_library_script(alloc, rules, library, &mut input, &mut output, &mut errors)
 }
 
 /// A listener on `address`, and the address that it has: for the port 0 the system chooses one.
@@ -67,11 +67,18 @@ where
     Ok((listener, address))
 }
 
-/// Serves many clients on a port of 127.0.0.1. Returns the exit status and the line of standard error.
+/// Serves many clients on a port of 127.0.0.1, and reads braces if `loose` is true. Returns the exit
+/// status and the line of standard error.
 ///
 /// The line of the port is written before the library is read, and the library is read before the
 /// first connection is accepted. A port that fails leaves a line on standard error that says why.
-fn run_on_port<R>(rt: &R, port: u16, dir: Option<&str>, size: Size) -> (u8, &'static str)
+fn run_on_port<R>(
+    rt: &R,
+    port: u16,
+    dir: Option<&str>,
+    size: Size,
+    loose: bool,
+) -> (u8, &'static str)
 where
     R: Net<Listener = TcpListener, Stream = TcpStream> + Files + Env + Print + Eprint + AllocGlobal,
     R: Threads + Wait + Clock + Log + Copy + Drop + Send + Sync + 'static,
@@ -94,7 +101,32 @@ where
     // Without this path, sessions with another root leave no line.
     let folder = dir.and_then(|dir| absolute_of(rt, dir).ok());
     let folder = folder.as_ref().map(|folder| folder.as_str());
-    served(serve(rt, rt.alloc(), listener, library, folder, size, &OpenGate))
+    let status = if loose {
+        let rules = HallRules::<Loose>::new();
+        serve(
+            rt,
+            rt.alloc(),
+            rules,
+            listener,
+            library,
+            folder,
+            size,
+            &OpenGate,
+        )
+    } else {
+        let rules = HallRules::<Strict>::new();
+        serve(
+            rt,
+            rt.alloc(),
+            rules,
+            listener,
+            library,
+            folder,
+            size,
+            &OpenGate,
+        )
+    };
+    served(status)
 }
 
 /// The root of the folder `dir`, as a whole path. If that is not known, a line says why.
@@ -179,14 +211,16 @@ fn main(rt: HostRuntime) -> ExitCode {
         }
     };
     let status = match task {
-        Task::Script { library } => run_on_streams(rt, library),
+        Task::Script { library, loose } => run_on_streams(rt, library, loose),
         Task::Listen {
             port,
             workers,
             library,
             sessions,
+            loose,
         } => {
-            let (status, line) = run_on_port(&rt, port, library, Size { workers, sessions });
+            let size = Size { workers, sessions };
+            let (status, line) = run_on_port(&rt, port, library, size, loose);
             let _ = eprint!(rt; "{line}");
             status
         }

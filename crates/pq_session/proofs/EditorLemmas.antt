@@ -1,7 +1,8 @@
 -- Reports and lists that are shown, and notifications that are printed around a list.
-use Rattle.std.proofs.Common.{◌≡◌, ℕ, ℤ, pos, negsuc, Bool, false, List, [], ◌∷◌, Option, Some, None, refl, sym, ◌∙◌, ap, append_assoc}
-use Rattle.std.specs.Prelude.{map, codes, decimal, option_and_then}
+use Rattle.std.proofs.Common.{◌≡◌, ℕ, ℤ, pos, negsuc, Bool, true, false, ◌++◌, List, [], ◌∷◌, Option, Some, None, refl, sym, ◌∙◌, ap, append_assoc}
+use Rattle.std.specs.Prelude.{cond, filter, flat_map, map, codes, decimal, option_and_then}
 use Rattle.json.specs.Print.{escape_byte}
+use Rattle.json.specs.Token.{Token}
 use Rattle.serde_json.specs.Data.{Data, string, object, member, no_members}
 use Rattle.serde_json.specs.Written.{compact_text}
 use Rattle.pq_frame.specs.Labels.{LabelModel, label_data}
@@ -9,6 +10,7 @@ use Rattle.pq_links.specs.declared.files.ParsedFile.{ParsedFile}
 use Rattle.pq_checks.specs.declared.errors.diagnostic.Diagnostic.{Diagnostic}
 use Rattle.pq_checks.specs.declared.errors.diagnostic.Diagnosed.{Diagnosed}
 use Rattle.pq_proto.specs.Lists.{list_data}
+use Rattle.pq_proto.specs.aux.Printed.{tokens_of, values_of}
 use Rattle.pq_rules.specs.declared.turn.Answer.TheVariants.{Value, Cycle}
 use Rattle.pq_proto.specs.declared.key.ProtoKey.{ProtoKey}
 use Rattle.pq_proto.specs.declared.value.ProtoValue.{ProtoValue}
@@ -20,9 +22,27 @@ use Rattle.pq_core.specs.Replies.{ReplyView}
 use Rattle.pq_session.specs.Labels.{label_model}
 use Rattle.pq_session.specs.Replies.{value_text, outcome_text, reply_text}
 use Rattle.pq_session.specs.Reply.{reply_data, diagnostic_data, diagnostics_text}
-use Rattle.pq_session.specs.Editor.{has_unread, shown_data, shown_items, shown_list, shown_text, value_diagnostics, outcome_value, answered_diagnostics, shown_or_text, editor_reply_text, published_text, published_data}
+use Rattle.pq_session.specs.Editor.{has_unread, is_shown, shown_data, shown_items, shown_list, shown_text, value_diagnostics, outcome_value, answered_diagnostics, shown_or_text, editor_reply_text, published_text, published_data}
+use Rattle.pq_session.specs.aux.Shown.{shown_tokens}
+
+-- ---- what is printed
+
+module _ (unread : Bool) (file : ParsedFile) where
+  values_more : (holds : Bool) (f : Diagnostic) (fs : List Diagnostic) (rest : List Token) → values_of (map (shown_data unread file) fs) ≡ rest
+      → values_of (map (shown_data unread file) (cond holds (f ∷ fs) fs)) ≡ cond holds (tokens_of (shown_data unread file f)) [] ++ rest
+  values_more true f fs rest e = ap (λ (ts : List Token). tokens_of (shown_data unread file f) ++ ts) e
+  values_more false f fs rest e = e
+
+  -- the tokens of those that are shown are the tokens of each that is
+  pub values_shown : (fs : List Diagnostic) → values_of (map (shown_data unread file) (filter (is_shown unread) fs)) ≡ flat_map (shown_tokens unread file) fs
+  values_shown [] = refl
+  values_shown (f ∷ fs) = values_more (is_shown unread f) f (filter (is_shown unread) fs) (flat_map (shown_tokens unread file) fs) (values_shown fs)
 
 -- ---- where each import is read
+
+all_shown : (fs : List Diagnostic) → filter (is_shown false) fs ≡ fs
+all_shown [] = refl
+all_shown (f ∷ fs) = ap (λ (rest : List Diagnostic). f ∷ rest) (all_shown fs)
 
 plain_each : (file : ParsedFile) (ds : List Diagnostic) → map (shown_data false file) ds ≡ map (diagnostic_data file) ds
 plain_each file [] = refl
@@ -30,7 +50,7 @@ plain_each file (f ∷ ds) = ap (λ (rest : List Data). diagnostic_data file f �
 
 -- each diagnostic is as it is
 pub plain_items : (d : Diagnosed) → shown_items false d ≡ list_data (map (diagnostic_data d.file) d.diagnostics)
-plain_items d = ap list_data (plain_each d.file d.diagnostics)
+plain_items d = ap list_data (ap (map (shown_data false d.file)) (all_shown d.diagnostics) ∙ plain_each d.file d.diagnostics)
 
 -- so is the report
 pub plain_text : (label : LabelModel) (d : Diagnosed) (revision : ℕ) → shown_text label false d revision ≡ diagnostics_text label d revision

@@ -1,7 +1,7 @@
 -- What one editor is shown (LSP 3.17, "Diagnostic", "PublishDiagnosticsParams"): the diagnostics of
 -- a file with their severities, the lists that are sent without being asked for, and the texts that
 -- edits make.
-use Rattle.std.specs.Prelude.{ℕ, ℤ, Bool, true, false, not, ◌&&◌, nat_le, List, ◌++◌, map, codes, decimal, if◌then◌else◌, Option, Some, None, option_and_then, option_map}
+use Rattle.std.specs.Prelude.{ℕ, ℤ, Bool, true, false, not, ◌&&◌, nat_le, List, ◌++◌, filter, map, codes, decimal, if◌then◌else◌, Option, Some, None, option_and_then, option_map}
 use Rattle.std.specs.Fmt.{signed_decimal}
 use Rattle.std.specs.List.{list_any}
 use Rattle.std.specs.Str.{bytes_eq}
@@ -38,8 +38,8 @@ use Rattle.pq_session.specs.Replies.{reply_text}
 
 -- ---- the severities
 
--- `is_unread c` is whether `c` is the code of an import that is not read: the imported file has a
--- syntax error, as each file of another version of the language has.
+-- `is_unread c` is whether `c` is the code of an import that is not read: the imported file has an
+-- error of its own, so it has no fields and values, and has the definitions that its braces show.
 abbrev pub is_unread : Code → Bool
 is_unread ImportWithError = true
 is_unread _ = false
@@ -48,12 +48,16 @@ is_unread _ = false
 abbrev pub has_unread : List Diagnostic → Bool
 has_unread ds = list_any (λ (f : Diagnostic). is_unread f.code) ds
 
--- `may_follow c` is whether an error of the code `c` may follow from an import that is not read: the
--- import itself, or a name of a type that resolves to nothing.
+-- `may_follow c` is whether an error of the code `c` may follow from an import that is not read: a
+-- name of a type that resolves to nothing.
 abbrev pub may_follow : Code → Bool
-may_follow ImportWithError = true
 may_follow TypeNotFound = true
 may_follow _ = false
+
+-- `is_shown unread f` is whether the diagnostic `f` is shown, where `unread` is whether an import of
+-- the file is not read: that import is not told, since the imported file shows its error itself.
+abbrev pub is_shown : Bool → Diagnostic → Bool
+is_shown unread f = not (unread && is_unread f.code)
 
 -- `shown_severity unread c` is the number of the severity that is shown of an error of the code `c`,
 -- where `unread` is whether an import of the file is not read: what may follow from that is
@@ -75,9 +79,9 @@ item_data n file f =
 abbrev pub shown_data : Bool → ParsedFile → Diagnostic → Data
 shown_data unread file f = item_data (shown_severity unread f.code) file f
 
--- `shown_items unread d` is the list of the diagnostics `d`, as they are shown.
+-- `shown_items unread d` is the list of those of the diagnostics `d` that are shown, as they are shown.
 abbrev pub shown_items : Bool → Diagnosed → Data
-shown_items unread d = list_data (map (shown_data unread d.file) d.diagnostics)
+shown_items unread d = list_data (map (shown_data unread d.file) (filter (is_shown unread) d.diagnostics))
 
 -- `shown_list d` is the text of the list of the diagnostics `d`, as they are shown.
 unfoldable pub shown_list : Diagnosed → List ℕ

@@ -1,5 +1,5 @@
 -- What a script may respond to the body of a message, and its state after it.
-use Rattle.std.specs.Prelude.{◌≡◌, ◌⊎◌, ℕ, ◌+◌, List, [], Option, Some, None, unwrap_or}
+use Rattle.std.specs.Prelude.{◌≡◌, ◌⊎◌, Bool, false, ℕ, ◌+◌, List, [], Option, Some, None, unwrap_or}
 use Rattle.serde_json.specs.Data.{Data}
 use Rattle.pq_frame.specs.Json.{IsJson}
 use Rattle.pq_frame.specs.Labels.{LabelModel}
@@ -19,20 +19,22 @@ use Rattle.pq_session.specs.Session.{Meaning, asks, says, edits, withdraws, igno
 use Rattle.pq_session.specs.Reply.{out_of_memory_text}
 use Rattle.pq_session.specs.Replies.{answer_text}
 
--- The state of a script: the phase of the session, the sources now, and the number of their
--- revision: one for each file that was set before the script, and one for each edit.
+-- The state of a script: whether braces are read, the phase of the session, the sources now, and the
+-- number of their revision: one for each file that was set before the script, and one for each edit.
 pub record ScriptState : Type 0 where
+  pub loose : Bool
   pub phase : Phase
   pub files : Sources
   pub revision : ℕ
 
--- `started files revision` is the state of a script at its start, over these sources.
-abbrev pub started : Sources → ℕ → ScriptState
-started files revision = record { phase = Fresh; files = files; revision = revision }
+-- `started loose files revision` is the state of a script at its start, over these sources. Braces are
+-- read if `loose`.
+abbrev pub started : Bool → Sources → ℕ → ScriptState
+started loose files revision = record { loose = loose; phase = Fresh; files = files; revision = revision }
 
--- `fresh` is the state of a script that starts without files.
+-- `fresh` is the state of a script that starts without files, and reads no braces.
 abbrev pub fresh : ScriptState
-fresh = started [] 0
+fresh = started false [] 0
 
 -- The response to a message: a text, nothing, the end of the session with a status, or an edit that
 -- ends the script, since it is refused or has a bad range.
@@ -51,7 +53,7 @@ root_of state = unwrap_or (root_in state.phase) []
 -- `state`, or says that an allocation failed.
 abbrev pub IsAnswer : ScriptState → LabelModel → ProtoKey → List ℕ → Type 0
 IsAnswer state label key text =
-    ((answer : Answer ProtoKey ProtoValue) × Compiles state.files key answer × (text ≡ answer_text (root_of state) label state.revision answer))
+    ((answer : Answer ProtoKey ProtoValue) × Compiles state.loose state.files key answer × (text ≡ answer_text (root_of state) label state.revision answer))
     ⊎ (text ≡ out_of_memory_text label)
 
 -- `edit_refusal state change` is the error of an edit that makes `change`, if the text that it makes
@@ -70,7 +72,7 @@ edit_response (Some text) (Some fault) = refuses fault
 -- this refusal. An accepted edit makes a revision, in which `change` is made.
 abbrev pub edited : ScriptState → ChangeView → Option (Option (List ℕ)) → Option InputFault → ScriptState
 edited state change None refusal = state
-edited state change (Some text) None = record { phase = state.phase; files = with_file state.files change.file (file_of state.files change); revision = state.revision + 1 }
+edited state change (Some text) None = record { loose = state.loose; phase = state.phase; files = with_file state.files change.file (file_of state.files change); revision = state.revision + 1 }
 edited state change (Some text) (Some fault) = state
 
 -- `RespondsTo state meaning response after` is that a script in `state` may give `response` to a
@@ -85,7 +87,7 @@ RespondsTo state (ends status) response after = (response ≡ finishes status) �
 
 -- `in_phase phase state` is `state` with this phase.
 abbrev pub in_phase : Phase → ScriptState → ScriptState
-in_phase phase state = record { phase = phase; files = state.files; revision = state.revision }
+in_phase phase state = record { loose = state.loose; phase = phase; files = state.files; revision = state.revision }
 
 -- `Responds state body response after` is that a script in `state` may give `response` to `body`,
 -- and is then in the state `after`. The message that `body` is has its meaning by the phase before

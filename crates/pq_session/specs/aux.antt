@@ -5,3 +5,4 @@ pub mod ServerState
 pub mod Answered
 pub mod Steps
 pub mod Starts
+pub mod Shown

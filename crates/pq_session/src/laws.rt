@@ -6,8 +6,8 @@
 //! the response that would be printed with its data (`symbols_spliced`, `descriptor_spliced`).
 //! Reading the URI that was printed of a file gives its name back (`uris_come_back`).
 //!
-//! An editor is shown each diagnostic as it is but for its severity (`shown_but_severity`), and with
-//! that where each import is read (`list_as_it_is`, `reply_as_it_is`). A list that was printed before
+//! A diagnostic that an editor is shown is as it is but for its severity (`shown_but_severity`), and
+//! where each import is read, all are shown with theirs (`list_as_it_is`, `reply_as_it_is`). A list that was printed before
 //! gives the notification that would be printed with its data (`published_spliced`).
 ghost use Rattle.std.specs.Prelude.{◌≡◌, ◌↔◌, Bool, true, false, List, ℕ, ℤ, map, Option, Some, IsUtf8};
 ghost use Rattle.serde_json.specs.Data.{Data};

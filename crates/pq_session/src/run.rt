@@ -18,6 +18,7 @@ use crate::fault::ScriptFault;
 use crate::state::server_state::ServerState;
 use pq_frame::FrameReader;
 use pq_inputs::Inputs;
+use pq_proto::ProtoRules;
 use std::alloc::Global;
 use std::io::{Read, Write};
 
@@ -65,9 +66,9 @@ pub fn at_end(frames: &FrameReader) -> Result<u8, ScriptFault>
 /// The largest number of reads of one script: 2^32.
 pub const MAX_READS: u64 = 4_294_967_296;
 
-/// Serves one client from the sources of `inputs` on: reads frames to the end of the input, and writes
-/// and flushes the response to each request before the next read (LSP 3.17, "Base Protocol", "Server
-/// lifecycle").
+/// Serves one client from the sources of `inputs` on, by these rules: reads frames to the end of the
+/// input, and writes and flushes the response to each request before the next read (LSP 3.17, "Base
+/// Protocol", "Server lifecycle").
 ///
 /// Returns the status with which `exit` ended the session, or 1 if the input ends between two
 /// frames. An edit of unreadable parameters ends the session with `UNREADABLE_PARAMETERS`. A query is
@@ -85,6 +86,7 @@ pub const MAX_READS: u64 = 4_294_967_296;
 /// failed.
 pub fn script_over<R: Read, W: Write>(
     alloc: Global,
+    rules: ProtoRules,
     inputs: Inputs,
     reader: &mut Counted<R>,
     writer: &mut Counted<W>,
@@ -97,7 +99,7 @@ pub fn script_over<R: Read, W: Write>(
     // The bytes that were written are what a session over the sources of `inputs` may respond to the
     // bytes that were read, and the bytes that were read show the result.
     ensures writes { (bytes : List ℕ) × (out : List ℕ)
-        × Scripts (started inputs.files inputs.revision) (IsAtEnd (R.remaining (inner_of reader.new)))
+        × Scripts (started rules.loose inputs.files inputs.revision) (IsAtEnd (R.remaining (inner_of reader.new)))
         (reads_of reader.new ≡ reads_of reader.old + max_reads) bytes out result
         × Consumes (R.remaining (inner_of reader.old)) (R.remaining (inner_of reader.new)) bytes
         × Appends (W.contents (inner_of writer.old)) (W.contents (inner_of writer.new)) out }
@@ -112,7 +114,7 @@ pub fn script_over<R: Read, W: Write>(
 {
     let mut buffer = [0u8; 16384];
     let mut frames = FrameReader::new(alloc);
-    let mut server = ServerState::new(alloc, inputs);
+    let mut server = ServerState::new(alloc, rules, inputs);
     'reads: for _turn in 0..MAX_READS {
         let count = match reader.read(&mut buffer) {
             Ok(count) => count,
@@ -129,7 +131,8 @@ pub fn script_over<R: Read, W: Write>(
     Err(ScriptFault::TooManyReads)
 }
 
-/// Serves one client, as [`script_over`] does, without files at its start.
+/// Serves one client, as [`script_over`] does, without files at its start. Braces are not read: a text
+/// with an error has no definitions.
 pub fn script<R: Read, W: Write>(
     alloc: Global,
     reader: &mut Counted<R>,
@@ -157,5 +160,5 @@ pub fn script<R: Read, W: Write>(
     ensures bound { reads_of reader.new ≤ reads_of reader.old + max_reads }
 {
     let inputs = Inputs::new(alloc)?;
-    script_over(alloc, inputs, reader, writer)
+    script_over(alloc, ProtoRules { loose: false }, inputs, reader, writer)
 }

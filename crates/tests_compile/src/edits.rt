@@ -158,7 +158,7 @@ fn is_answer(
     want: Result<Answer<ProtoKey, ProtoValue>, Memory>,
 ) -> bool {
     match want {
-        Ok(want) => same_answer(&ProtoRules, found.answer.get(), &want),
+        Ok(want) => same_answer(&ProtoRules { loose: false }, found.answer.get(), &want),
         Err(_) => false,
     }
 }
@@ -228,7 +228,7 @@ fn check_lines<E: Demands>(rt: &(impl Abort + AllocGlobal), engine: &mut E, scri
 /// Runs a script, each of its demands checked.
 fn check_script(rt: &(impl Abort + AllocGlobal), script: &str) {
     let inputs = Inputs::new(rt.alloc()).expect(rt, "memory");
-    let mut engine = Engine::new(rt.alloc(), ProtoRules, inputs);
+    let mut engine = Engine::new(rt.alloc(), ProtoRules { loose: false }, inputs);
     check_lines(rt, &mut engine, script);
 }
 

@@ -100,7 +100,8 @@ fn add_file(page: &mut Page, file: &ParsedFile) {
 fn add_items(page: &mut Page, items: &FileItems) {
     match items {
         FileItems::Absent => page.add("absent"),
-        FileItems::Fault => page.add("an error"),
+        FileItems::Fault(_) => page.add("an error"),
+        FileItems::Other(_) => page.add("another version"),
         FileItems::Tree(file) => add_count(page, file.as_slice().len(), " statements"),
     }
 }

@@ -260,7 +260,7 @@ fn a_long_ring_is_compiled(rt: HostRuntime) {
 
 #[test]
 fn a_long_ring_is_demanded(rt: HostRuntime) {
-    let mut engine = Engine::new(rt.alloc(), ProtoRules, ring(&rt));
+    let mut engine = Engine::new(rt.alloc(), ProtoRules { loose: false }, ring(&rt));
     check_file(&rt, &mut engine, "f0500.proto");
     check_file(&rt, &mut engine, "f0000.proto");
 }
@@ -304,7 +304,7 @@ fn a_long_ring_is_met_by_two_runs(rt: HostRuntime) {
     let stamp = PlainStamp::of(rt.alloc(), &inputs).expect(&rt, "memory");
     let mut core: Core<ProtoRules, PlainStamp, Outbox<ProtoRules>> = Core::new(
         rt.alloc(),
-        ProtoRules,
+        ProtoRules { loose: false },
         inputs,
         stamp,
     );

@@ -64,7 +64,7 @@ mod tests {
         let names = field_names(&rt, &parse(rt.alloc(), address).expect(&rt, "memory"));
         assert_eq!(rt; names.as_str(), "road;zip;");
         let inputs = Inputs::new(rt.alloc()).expect(&rt, "memory");
-        let mut engine = Engine::new(rt.alloc(), ProtoRules, inputs);
+        let mut engine = Engine::new(rt.alloc(), ProtoRules { loose: false }, inputs);
         set(&rt, &mut engine, "b.proto", person);
         set(&rt, &mut engine, "a.proto", address);
         // The first demand starts each rule that the answer needs, and the next one none.

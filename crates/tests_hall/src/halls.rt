@@ -43,9 +43,8 @@ use crate::checks::check_row_count;
 use crate::halls::calls::run_calls;
 use crate::halls::gate::{Held, Latch};
 use crate::halls::stage::Texts;
-use pq_hall::{BoardName, Hall, NewBoard, OneValue};
+use pq_hall::{BoardName, Hall, HallRules, NewBoard, OneValue, Strict};
 use pq_inputs::Inputs;
-use pq_proto::ProtoRules;
 use std::marker::Brand;
 use std::process::Abort;
 use std::sync::Wait;
@@ -80,7 +79,7 @@ where
     check_row_count(rt, count, rows);
     let rows = String::from_str(rt.alloc(), rows).expect(rt, "memory");
     let board = NewBoard::new(rt.alloc()).expect(rt, "memory");
-    check_hall::<ProtoRules, Brand, R>(rt, ProtoRules, board, workers, rows);
+    check_hall::<HallRules<Strict>, Brand, R>(rt, HallRules::new(), board, workers, rows);
 }
 
 /// Makes the calls of `rows`, which has `count` lines, with one worker and then with two.

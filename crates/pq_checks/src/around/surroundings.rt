@@ -12,7 +12,7 @@ pub enum FileState {
     Missing,
     /// Its text has a syntax error.
     Unreadable,
-    /// Its text has a tree.
+    /// Its text has a tree, or is of another version of the language and its braces are read.
     Readable,
 }
 
@@ -31,7 +31,7 @@ pub(crate) fn state_of(items: &FileItems) -> FileState
 {
     match items {
         FileItems::Absent => FileState::Missing,
-        FileItems::Fault => FileState::Unreadable,
-        FileItems::Tree(_) => FileState::Readable,
+        FileItems::Fault(_) => FileState::Unreadable,
+        FileItems::Other(_) | FileItems::Tree(_) => FileState::Readable,
     }
 }

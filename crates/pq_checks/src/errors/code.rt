@@ -1,6 +1,6 @@
 //! The codes of errors.
-ghost use Rattle.std.specs.Prelude.{◌≡◌};
-ghost use Rattle.pq_checks.specs.Codes.{code_text, severity, severity_number, syntax_code, syntax_text};
+ghost use Rattle.std.specs.Prelude.{◌≡◌, ◌&&◌};
+ghost use Rattle.pq_checks.specs.Codes.{code_text, is_of_version, said_code, said_text, severity, severity_number, syntax_code, syntax_text};
 
 use pq_lex::Code as LexicalCode;
 use pq_syntax::Code as SyntaxCode;
@@ -39,6 +39,8 @@ pub enum Code {
     ExtendBlock,
     /// The constant of an option is a float.
     FloatConstant,
+    /// The text is of another version of the language, and its braces are read.
+    OtherVersion,
     /// A package after the first.
     PackageTwice,
     /// The imported file is absent.
@@ -122,6 +124,7 @@ impl Code {
             Code::AggregateConstant => "P020",
             Code::ExtendBlock => "P021",
             Code::FloatConstant => "P022",
+            Code::OtherVersion => "P023",
             Code::PackageTwice => "P101",
             Code::ImportNotFound => "P102",
             Code::ImportTwice => "P103",
@@ -150,22 +153,23 @@ impl Code {
         }
     }
 
-    /// The severity: information for a skipped construct, else an error.
+    /// The severity: information for a part that is not read, else an error.
     pub fn severity(self) -> Severity
         // The severity of the code.
         ensures severity { result ≡ severity self }
     {
         match self {
-            Code::AggregateConstant | Code::ExtendBlock | Code::FloatConstant => {
-                Severity::Information
-            }
+            Code::AggregateConstant
+            | Code::ExtendBlock
+            | Code::FloatConstant
+            | Code::OtherVersion => Severity::Information,
             _ => Severity::Error,
         }
     }
 }
 
 /// The code of a syntax error.
-pub(crate) fn syntax_code(code: SyntaxCode) -> Code
+fn syntax_code(code: SyntaxCode) -> Code
     ensures code { result ≡ syntax_code code }
 {
     match code {
@@ -181,7 +185,7 @@ pub(crate) fn syntax_code(code: SyntaxCode) -> Code
 }
 
 /// The message of a syntax error.
-pub(crate) fn syntax_text(code: SyntaxCode) -> &'static str
+fn syntax_text(code: SyntaxCode) -> &'static str
     ensures text { result.now ≡ syntax_text code }
 {
     match code {
@@ -195,4 +199,32 @@ pub(crate) fn syntax_text(code: SyntaxCode) -> &'static str
         SyntaxCode::UnexpectedToken => "unexpected token",
         SyntaxCode::UnexpectedEnd => "unexpected end of file",
     }
+}
+
+/// Whether the syntax error `code` is that of the version of a text that is of another one.
+fn is_told(other: bool, code: SyntaxCode) -> bool
+    ensures told { result ≡ (other && is_of_version code) }
+{
+    other && matches!(code, SyntaxCode::OnlyProto3)
+}
+
+/// The code that is said of a syntax error of a text, which is of another version of the language
+/// if `other` is true.
+pub(crate) fn said_code(other: bool, code: SyntaxCode) -> Code
+    ensures code { result ≡ said_code other code }
+{
+    if is_told(other, code) {
+        return Code::OtherVersion;
+    }
+    syntax_code(code)
+}
+
+/// The message that is said of it.
+pub(crate) fn said_text(other: bool, code: SyntaxCode) -> &'static str
+    ensures text { result.now ≡ said_text other code }
+{
+    if is_told(other, code) {
+        return "only the definitions of this file are read";
+    }
+    syntax_text(code)
 }

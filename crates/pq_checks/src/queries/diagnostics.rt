@@ -10,7 +10,7 @@ ghost use Rattle.pq_checks.specs.InOrder.{in_order};
 ghost use Rattle.pq_checks.specs.aux.DiagnosticsTurns.{diagnostics_level, diagnostics_starts, diagnostics_advances, diagnostics_falls, diagnostics_left, file_turn, listed_at};
 
 use crate::Memory;
-use crate::errors::code::{syntax_code, syntax_text};
+use crate::errors::code::{said_code, said_text};
 use crate::errors::diagnostic::{Diagnosed, Diagnostic};
 use crate::errors::fault::Fault;
 use crate::queries::answered::{faults_in, file_in};
@@ -81,31 +81,38 @@ fn in_order(alloc: Global, nodes: &File, faults: &[Fault]) -> Result<Vec<Diagnos
     Ok(diagnostics)
 }
 
-/// The syntax error `code` at `span`.
-fn syntax_diagnostic(alloc: Global, span: Span, code: SyntaxCode) -> Result<Diagnostic, Memory>
-    ensures is { IfOk result (λ d. d ≡ syntax_diagnostic span code) }
+/// The syntax error `code` at `span` of a text, which is of another version of the language if
+/// `other` is true.
+fn syntax_diagnostic(
+    alloc: Global,
+    other: bool,
+    span: Span,
+    code: SyntaxCode,
+) -> Result<Diagnostic, Memory>
+    ensures is { IfOk result (λ d. d ≡ syntax_diagnostic other span code) }
 {
     Ok(Diagnostic {
         start: span.start,
         end: span.end,
-        code: syntax_code(code),
-        text: Text::new(alloc, syntax_text(code))?,
+        code: said_code(other, code),
+        text: Text::new(alloc, said_text(other, code))?,
     })
 }
 
 /// The diagnostics of a text with the tree or syntax error `parsed`, and the errors `faults`.
 fn parsed_diagnostics(
     alloc: Global,
+    other: bool,
     faults: &[Fault],
     parsed: &Parsed,
 ) -> Result<Vec<Diagnostic>, Memory>
-    ensures diagnostics { IfOk result (λ ds. ds.items ≡ parsed_diagnostics faults.now parsed.now) }
+    ensures diagnostics { IfOk result (λ ds. ds.items ≡ parsed_diagnostics other faults.now parsed.now) }
 {
     match parsed {
         Parsed::Tree(nodes) => in_order(alloc, nodes, faults),
         Parsed::Fault { span, code } => {
             let mut diagnostics = Vec::new(alloc);
-            diagnostics.push(syntax_diagnostic(alloc, *span, *code)?)?;
+            diagnostics.push(syntax_diagnostic(alloc, other, *span, *code)?)?;
             Ok(diagnostics)
         }
     }
@@ -121,7 +128,12 @@ fn diagnostics_of(
 {
     match file {
         ParsedFile::Absent => Ok(Vec::new(alloc)),
-        ParsedFile::Present { parsed, .. } => parsed_diagnostics(alloc, faults, parsed),
+        ParsedFile::Present { parsed, shown, .. } => parsed_diagnostics(
+            alloc,
+            shown.is_other,
+            faults,
+            parsed,
+        ),
     }
 }
 

@@ -278,7 +278,7 @@ fn faults_of(
 {
     match known.linked.items.get() {
         FileItems::Tree(file) => tree_faults(alloc, known, imported, next, file.as_slice()),
-        FileItems::Absent | FileItems::Fault => Ok(Vec::new(alloc)),
+        FileItems::Absent | FileItems::Fault(_) | FileItems::Other(_) => Ok(Vec::new(alloc)),
     }
 }
 

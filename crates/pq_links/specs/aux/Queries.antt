@@ -1,6 +1,6 @@
 -- Auxiliary: the four queries as functions of the key makers of a sum of queries and of what the
 -- sum's readers say of an answer. The public laws tie them to `specs/Answers`.
-use Rattle.std.specs.Prelude.{ℕ, List, [], ◌∷◌, ◌++◌, length, Option, Some, None}
+use Rattle.std.specs.Prelude.{ℕ, Bool, List, [], ◌∷◌, ◌++◌, length, Option, Some, None}
 use Rattle.pq_rules.specs.declared.turn.Turn.{Turn}
 use Rattle.pq_rules.specs.declared.turn.Turn.TheVariants.{Ask, Done}
 use Rattle.pq_links.specs.Visibility.{links_by, no_links}
@@ -30,9 +30,9 @@ linked_level = 4
 abbrev pub parse_starts : {K : Type 0} → (List ℕ → K) → List ℕ → Turn K (Unit {0}) ParsedFile
 parse_starts input f = Ask (input f) tt
 
--- `parse_advances text` is the turn after that: it is done with what the file is read as
-abbrev pub parse_advances : {K : Type 0} → Option (List ℕ) → Turn K (Unit {0}) ParsedFile
-parse_advances text = Done (read_file text)
+-- `parse_advances loose text` is the turn after that: it is done with what the file is read as
+abbrev pub parse_advances : {K : Type 0} → Bool → Option (List ℕ) → Turn K (Unit {0}) ParsedFile
+parse_advances loose text = Done (read_file loose text)
 
 -- `items_starts parse f` is the first turn of the tree without spans of the file `f`: it asks for
 -- the parse

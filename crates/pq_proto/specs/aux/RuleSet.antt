@@ -1,6 +1,6 @@
 -- Auxiliary: the rule set of proto3 files, put together from its queries. The law `proto_values`
 -- says what its keys mean.
-use Rattle.std.specs.Prelude.{ℕ, List, [], ◌∷◌, map, Option, Some, None}
+use Rattle.std.specs.Prelude.{ℕ, Bool, List, [], ◌∷◌, map, Option, Some, None}
 use Rattle.pq_inputs.specs.Sources.{Sources}
 use Rattle.pq_rules.specs.aux.Codes.{coded, text_code}
 use Rattle.pq_rules.specs.declared.turn.Turn.{Turn}
@@ -154,20 +154,20 @@ proto_start (keys.Descriptor f) = descriptor_turn (descriptor_starts f)
 proto_start (keys.Symbols f) = symbols_turn (symbols_starts f)
 proto_start (keys.Definition f place) = definition_turn (definition_starts f place)
 
--- `proto_advance part a` is the turn that follows `part` by the answer `a`
-abbrev pub proto_advance : ProtoPart → Answer ProtoKey ProtoValue → Turn ProtoKey ProtoPart ProtoValue
-proto_advance Parsing a = parse_turn (parse_advances (text_read a))
-proto_advance Itemizing a = items_turn (items_advances (parsed_read a))
-proto_advance Importing a = imports_turn (imports_advances (items_read a))
-proto_advance (LinkingFiles q) a = linked_turn (linked_advances (λ n. keys.Linked n) (imports_read a) (links_read a) q)
-proto_advance Defining a = defs_turn (defs_advances (nodes_in (items_read a)))
-proto_advance (Scoping q) a = scope_turn (scope_advances (λ n. keys.Defs n) (links_read a) (defs_read a) q)
-proto_advance (Resolving q) a = resolved_turn (resolved_advances (λ n. keys.Items n) (scope_read a) (nodes_in (items_read a)) q)
-proto_advance (Checking q) a = checks_turn (check_advances check_words q a)
-proto_advance (Diagnosing q) a = diagnostics_turn (diagnostics_advances (λ n. keys.Checks n) (faults_read a) (parsed_read a) q)
-proto_advance (Describing q) a = descriptor_turn (descriptor_advances q a)
-proto_advance Listing a = symbols_turn (symbols_advances a)
-proto_advance (Locating q) a = definition_turn (definition_advances q a)
+-- `proto_advance loose part a` is the turn that follows `part` by the answer `a`
+abbrev pub proto_advance : Bool → ProtoPart → Answer ProtoKey ProtoValue → Turn ProtoKey ProtoPart ProtoValue
+proto_advance loose Parsing a = parse_turn (parse_advances loose (text_read a))
+proto_advance loose Itemizing a = items_turn (items_advances (parsed_read a))
+proto_advance loose Importing a = imports_turn (imports_advances (items_read a))
+proto_advance loose (LinkingFiles q) a = linked_turn (linked_advances (λ n. keys.Linked n) (imports_read a) (links_read a) q)
+proto_advance loose Defining a = defs_turn (defs_advances (nodes_in (items_read a)))
+proto_advance loose (Scoping q) a = scope_turn (scope_advances (λ n. keys.Defs n) (links_read a) (defs_read a) q)
+proto_advance loose (Resolving q) a = resolved_turn (resolved_advances (λ n. keys.Items n) (scope_read a) (nodes_in (items_read a)) q)
+proto_advance loose (Checking q) a = checks_turn (check_advances check_words q a)
+proto_advance loose (Diagnosing q) a = diagnostics_turn (diagnostics_advances (λ n. keys.Checks n) (faults_read a) (parsed_read a) q)
+proto_advance loose (Describing q) a = descriptor_turn (descriptor_advances q a)
+proto_advance loose Listing a = symbols_turn (symbols_advances a)
+proto_advance loose (Locating q) a = definition_turn (definition_advances q a)
 
 -- `proto_left part` is what is left to ask at `part`
 abbrev pub proto_left : ProtoPart → ℕ × ℕ
@@ -180,14 +180,14 @@ proto_left (Describing q) = descriptor_left q
 proto_left (Locating q) = definition_left q
 proto_left _ = (0, 0)
 
--- `proto_rules` is the rule set
-abbrev pub proto_rules : Machine ProtoKey ProtoPart ProtoValue
-proto_rules = record {
+-- `proto_rules loose` is the rule set, which reads the braces of a text with an error if `loose`
+abbrev pub proto_rules : Bool → Machine ProtoKey ProtoPart ProtoValue
+proto_rules loose = record {
   level = level_of;
   file = proto_file;
   text = λ text. values.Source text;
   start = proto_start;
-  advance = proto_advance;
+  advance = proto_advance loose;
   left = proto_left;
 }
 
@@ -208,10 +208,10 @@ makers =
     ∷ (λ n. keys.Diagnostics n)
     ∷ []
 
--- `proto_reach files k` is the keys that the evaluation of `k` may ask: `k`, and those of its file
+-- `proto_reach loose files k` is the keys that the evaluation of `k` may ask: `k`, and those of its file
 -- and of the files that any file imports
-abbrev pub proto_reach : Sources → ProtoKey → List ProtoKey
-proto_reach files k = k ∷ keys_by makers (own_name k ∷ all_mentioned files)
+abbrev pub proto_reach : Bool → Sources → ProtoKey → List ProtoKey
+proto_reach loose files k = k ∷ keys_by makers (own_name k ∷ all_mentioned loose files)
 
 -- `proto_code key` is a number that is made of `key`
 abbrev pub proto_code : ProtoKey → ℕ

@@ -4,7 +4,7 @@
 //! A law of a query is of every list `es` of questions with their answers by which the query's own
 //! rule runs from its start to a value. It says what the questions were, in order, and that the
 //! value is the definition, applied to what these answers say.
-ghost use Rattle.std.specs.Prelude.{◌≡◌, ◌↔◌, List, Option, ℕ};
+ghost use Rattle.std.specs.Prelude.{◌≡◌, ◌↔◌, Bool, List, Option, ℕ};
 ghost use Rattle.std.specs.declared.cmp.Ordering.TheVariants.{Equal};
 ghost use Rattle.pq_inputs.specs.Sources.{Sources};
 ghost use Rattle.pq_rules.specs.declared.turn.Answer.{Answer};
@@ -27,15 +27,16 @@ use crate::key::ProtoKey;
 
 /// At all sources, what a key of the rule set means is exactly what it compiles to.
 pub fn proto_values()
-    // At all sources, what a key means in the rule set is exactly what it compiles to.
-    ensures means { (files : Sources) (key : KeyContents) (a : Answer KeyContents ValueContents) → Means (over ⟦<ProtoKey as Ord>⟧.cmp proto_rules files) key a ↔ Compiles files key a }
+    // At all sources, what a key means in the rule set is exactly what it compiles to, whether
+    // braces are read or not.
+    ensures means { (loose : Bool) (files : Sources) (key : KeyContents) (a : Answer KeyContents ValueContents) → Means (over ⟦<ProtoKey as Ord>⟧.cmp (proto_rules loose) files) key a ↔ Compiles loose files key a }
 {}
 
 /// Each key compiles to one answer: it has an answer, and two answers of it are the same.
 pub fn one_compilation()
     // `some`, `one`: Each key compiles to one answer, at all sources.
-    ensures some { (files : Sources) (key : KeyContents) → (a : Answer KeyContents ValueContents) × Compiles files key a }
-    ensures one { (files : Sources) (key : KeyContents) (a b : Answer KeyContents ValueContents) → Compiles files key a → Compiles files key b → a ≡ b }
+    ensures some { (loose : Bool) (files : Sources) (key : KeyContents) → (a : Answer KeyContents ValueContents) × Compiles loose files key a }
+    ensures one { (loose : Bool) (files : Sources) (key : KeyContents) (a b : Answer KeyContents ValueContents) → Compiles loose files key a → Compiles loose files key b → a ≡ b }
 {}
 
 /// Keys of which neither comes before the other are the same key.

@@ -1,6 +1,6 @@
 -- Auxiliary: the rule set of a schema, put together from its queries. The law `schema_values` says
 -- what its keys mean.
-use Rattle.std.specs.Prelude.{ℕ, List, [], ◌∷◌, Option, Some, None}
+use Rattle.std.specs.Prelude.{ℕ, false, List, [], ◌∷◌, Option, Some, None}
 use Rattle.pq_inputs.specs.Sources.{Sources}
 use Rattle.pq_rules.specs.aux.Codes.{text_code}
 use Rattle.pq_rules.specs.declared.turn.Turn.{Turn}
@@ -124,7 +124,7 @@ schema_start (Resolved f) = resolved_turn (resolved_starts (λ n. Scope n) f)
 
 -- `schema_advance part a` is the turn that follows `part` by the answer `a`
 abbrev pub schema_advance : SchemaPart → Answer SchemaKey SchemaValue → Turn SchemaKey SchemaPart SchemaValue
-schema_advance Parsing a = parse_turn (parse_advances (text_read a))
+schema_advance Parsing a = parse_turn (parse_advances false (text_read a))
 schema_advance Itemizing a = items_turn (items_advances (parsed_read a))
 schema_advance Importing a = imports_turn (imports_advances (items_read a))
 schema_advance (LinkingFiles q) a = linked_turn (linked_advances (λ n. Linked n) (imports_read a) (links_read a) q)
@@ -180,7 +180,7 @@ makers =
 -- `schema_reach files k` is the keys that the evaluation of `k` may ask: those of its file and of
 -- the files that any file imports
 abbrev pub schema_reach : Sources → SchemaKey → List SchemaKey
-schema_reach files k = keys_by makers (own_name k ∷ all_mentioned files)
+schema_reach files k = keys_by makers (own_name k ∷ all_mentioned false files)
 
 -- `schema_code key` is the code of the file's name in `key`
 abbrev pub schema_code : SchemaKey → ℕ

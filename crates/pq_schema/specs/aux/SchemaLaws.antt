@@ -1,6 +1,6 @@
 -- Auxiliary: the rule set of a schema keeps the laws, by what each query preserves of the names
 -- that the sources mention (used by proofs and invariants only).
-use Rattle.std.proofs.Common.{◌≡◌, ℕ, ◌≤◌, List, ◌∷◌, refl, inl, inr, arith}
+use Rattle.std.proofs.Common.{◌≡◌, ℕ, false, ◌≤◌, List, ◌∷◌, refl, inl, inr, arith}
 use Rattle.std.specs.Prelude.{IsSome, ◌↔◌}
 use Rattle.std.specs.declared.cmp.Ordering.{Ordering}
 use Rattle.std.specs.declared.cmp.Ordering.TheVariants.{Equal}
@@ -62,7 +62,7 @@ PartIn ns l (Scoping q) = (6 ≤ l) × ScopePartIn (λ n. In n ns) q
 PartIn ns l (Resolving q) = (7 ≤ l) × ResolvedPartIn ns q
 
 abbrev ValueIn : List (List ℕ) → SchemaValue → Type 0
-ValueIn ns (values.Source text) = IfImportsIn (λ n. In n ns) (file_imports (items_of (read_file text)))
+ValueIn ns (values.Source text) = IfImportsIn (λ n. In n ns) (file_imports (items_of (read_file false text)))
 ValueIn ns (values.Parse file) = IfImportsIn (λ n. In n ns) (file_imports (items_of file))
 ValueIn ns (values.Items items) = IfImportsIn (λ n. In n ns) (file_imports items)
 ValueIn ns (values.Imports is) = IfImportsIn (λ n. In n ns) is
@@ -71,7 +71,7 @@ ValueIn ns (values.Defs defs) = Unit {0}
 ValueIn ns (values.Scope scope) = ScopeIn (λ n. In n ns) scope
 ValueIn ns (values.Resolved rs) = Unit {0}
 
-text_in : (ns : List (List ℕ)) (a : Answer SchemaKey SchemaValue) → AnswerIn (ValueIn ns) a → IfImportsIn (λ n. In n ns) (file_imports (items_of (read_file (text_read a))))
+text_in : (ns : List (List ℕ)) (a : Answer SchemaKey SchemaValue) → AnswerIn (ValueIn ns) a → IfImportsIn (λ n. In n ns) (file_imports (items_of (read_file false (text_read a))))
 text_in ns (Value (values.Source text)) i = i
 text_in ns (Value v) i = tt
 text_in ns (Cycle ring) i = tt
@@ -130,9 +130,9 @@ module _ (order : SchemaKey → SchemaKey → Ordering) (files : Sources) where
   abbrev m : Instance SchemaKey SchemaPart SchemaValue
   m = over order schema_rules files
 
-  module _ (ns : List (List ℕ)) (l : ℕ) (mentions : (w : List ℕ) → In w (all_mentioned files) → In w ns) where
+  module _ (ns : List (List ℕ)) (l : ℕ) (mentions : (w : List ℕ) → In w (all_mentioned false files) → In w ns) where
     inputs_in : (k : SchemaKey) → schema_level k ≡ 0 → ValueIn ns (m.input k)
-    inputs_in (Input f) at = text_in_kind (λ n. In n ns) files mentions f
+    inputs_in (Input f) at = text_in_kind (λ n. In n ns) false files mentions f
     inputs_in k at = cc
 
     starts_in : (k : SchemaKey) → KeyIn ns l k → TurnIn (KeyIn ns l) (PartIn ns l) (ValueIn ns) (schema_start k)
@@ -179,19 +179,19 @@ module _ (order : SchemaKey → SchemaKey → Ordering) (files : Sources) where
 
   no_higher : (k q : SchemaKey) (p : SchemaPart) → ComesTo m k (Ask q p) → schema_level q ≤ schema_level k
   no_higher k q p c =
-      let ns : List (List ℕ) = own_name k ∷ all_mentioned files in
+      let ns : List (List ℕ) = own_name k ∷ all_mentioned false files in
       (asked_in m (KeyIn ns (schema_level k)) (PartIn ns (schema_level k)) (ValueIn ns) (preserves ns (schema_level k) (λ w i. inr i)) k q p (inl refl, omega arith) c).1
 
   stays : (k x q : SchemaKey) (p : SchemaPart) → In x (schema_reach files k) → ComesTo m x (Ask q p) → In q (schema_reach files k)
   stays k x q p i c =
-      let ns : List (List ℕ) = own_name k ∷ all_mentioned files in
+      let ns : List (List ℕ) = own_name k ∷ all_mentioned false files in
       in_keys q ns (asked_in m (KeyIn ns (schema_level x)) (PartIn ns (schema_level x)) (ValueIn ns) (preserves ns (schema_level x) (λ w j. inr j)) x q p (keys_in x ns i, omega arith) c).0
 
   pub schema_lawful : ((a b : SchemaKey) → order a b ≡ Equal → a ≡ b) → Laws m (schema_reach files)
   schema_lawful exact = record {
     no_higher = no_higher;
     falls = schema_falls;
-    reaches = λ k. in_keys k (own_name k ∷ all_mentioned files) (inl refl);
+    reaches = λ k. in_keys k (own_name k ∷ all_mentioned false files) (inl refl);
     stays = stays;
     exact = exact;
   }

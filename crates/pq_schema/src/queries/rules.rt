@@ -84,7 +84,7 @@ pub enum SchemaPart {
     Resolving(ResolvedPart),
 }
 
-/// The rule set of a schema (the law `schema_values`).
+/// The rule set of a schema (the law `schema_values`). It reads no braces.
 #[derive(Clone, Copy)]
 pub struct SchemaRules;
 
@@ -288,7 +288,7 @@ impl Rules for SchemaRules {
         match key {
             SchemaKey::Input(_) => Ok(Turn::Done(SchemaValue::Source(None))),
             SchemaKey::Parse(file) => {
-                start_of::<Self, _>(alloc, &ParseQuery::<Self>::new(), file)
+                start_of::<Self, _>(alloc, &ParseQuery::<Self>::new(false), file)
             }
             SchemaKey::Items(file) => {
                 start_of::<Self, _>(alloc, &ItemsQuery::<Self>::new(), file)
@@ -317,7 +317,7 @@ impl Rules for SchemaRules {
     ) -> Result<Turn<SchemaKey, SchemaPart, SchemaValue>, SchemaPart> {
         match part {
             SchemaPart::Parsing => {
-                advance_of::<Self, _>(alloc, &ParseQuery::<Self>::new(), (), answer)
+                advance_of::<Self, _>(alloc, &ParseQuery::<Self>::new(false), (), answer)
             }
             SchemaPart::Itemizing => {
                 advance_of::<Self, _>(alloc, &ItemsQuery::<Self>::new(), (), answer)
@@ -342,7 +342,7 @@ impl Rules for SchemaRules {
 
     fn left(&self, part: &SchemaPart) -> (u32, u64) {
         match part {
-            SchemaPart::Parsing => ParseQuery::<SchemaRules>::new().left(&()),
+            SchemaPart::Parsing => ParseQuery::<SchemaRules>::new(false).left(&()),
             SchemaPart::Itemizing => ItemsQuery::<SchemaRules>::new().left(&()),
             SchemaPart::Importing => ImportsQuery::<SchemaRules>::new().left(&()),
             SchemaPart::LinkingFiles(part) => LinkedQuery::<SchemaRules>::new().left(part),

@@ -11,9 +11,8 @@ use crate::editor::rounds::Rounds;
 use crate::editor::writer::write_all_replies;
 use crate::library::no_library;
 use crate::serving::floor::{Floor, Texts, Works};
-use pq_hall::{BoardName, Gate, Hall, NewBoard, OneValue};
+use pq_hall::{BoardName, Gate, Hall, HallRules, Loose, NewBoard, OneValue};
 use pq_inputs::Inputs;
-use pq_proto::ProtoRules;
 use pq_session::{Root, ScriptFault};
 use std::alloc::Global;
 use std::io::{Read, Write};
@@ -34,7 +33,8 @@ pub(crate) struct Setup {
     pub(crate) roots: Vec<Root>,
 }
 
-/// Serves one editor from `input` to `output`. Each work passes `gate` before it is carried out.
+/// Serves one editor from `input` to `output`. Braces are read: a text with an error has the
+/// definitions that they show. Each work passes `gate` before it is carried out.
 ///
 /// Returns the status with which the session ended. `Memory` also says that a thread could not be
 /// started.
@@ -50,14 +50,22 @@ where
     R: Threads + Wait + Disk + AllocGlobal + Eprint + Copy + Drop + Send + Sync + 'static,
     I: Read + Drop,
     W: Write + Copy + Send + Sync,
-    G: Gate<ProtoRules> + Sync,
+    G: Gate<HallRules<Loose>> + Sync,
 {
     let Ok(inputs) = no_library(alloc) else {
         return Err(ScriptFault::Memory);
     };
     match NewBoard::new(alloc) {
-        Ok(board) => serve_in::<ProtoRules, Brand, R, I, W, G>(
-            rt, alloc, ProtoRules, board, inputs, input, output, setup, gate,
+        Ok(board) => serve_in::<HallRules<Loose>, Brand, R, I, W, G>(
+            rt,
+            alloc,
+            HallRules::new(),
+            board,
+            inputs,
+            input,
+            output,
+            setup,
+            gate,
         ),
         Err(_) => Err(ScriptFault::Memory),
     }

@@ -10,17 +10,19 @@ ghost use Rattle.pq_server.specs.Status.{status_of, line_of, start_status, start
 use crate::library::fault::LibraryFault;
 use crate::status::{line_of, not_started, status_of, write_line};
 use pq_inputs::Inputs;
+use pq_proto::ProtoRules;
 use pq_session::{Counted, script_over};
 use std::alloc::Global;
 use std::io::{Read, Write};
 
-/// Serves one client over the library that was read, as `run_script` does without files.
+/// Serves one client over the library that was read, by `rules`, as `run_script` does without files.
 ///
 /// If no library was read, nothing is read of `reader` and nothing is written to `writer`. The line
 /// of the error is written to `errors`, and its status is returned. A failed write of the line is
 /// ignored.
 pub fn run_library_script<R: Read, W: Write, E: Write>(
     alloc: Global,
+    rules: ProtoRules,
     library: Result<Inputs, LibraryFault>,
     reader: &mut Counted<R>,
     writer: &mut Counted<W>,
@@ -37,7 +39,7 @@ pub fn run_library_script<R: Read, W: Write, E: Write>(
         × (failed_of errors.new ≡ failed_of errors.old → Appends (E.contents (inner_of errors.old)) (E.contents (inner_of errors.new)) (start_line fault))) }
     // What `run_script` says, over the sources and the revision of a library that was read.
     ensures serves { IfOk library (λ inputs. (bytes : List ℕ) × (out : List ℕ) × (outcome : Result ℕ ScriptFault)
-        × Scripts (started inputs.files inputs.revision) (IsAtEnd (R.remaining (inner_of reader.new))) (reads_of reader.new ≡ reads_of reader.old + 4294967296) bytes out outcome
+        × Scripts (started rules.loose inputs.files inputs.revision) (IsAtEnd (R.remaining (inner_of reader.new))) (reads_of reader.new ≡ reads_of reader.old + 4294967296) bytes out outcome
         × Consumes (R.remaining (inner_of reader.old)) (R.remaining (inner_of reader.new)) bytes
         × Appends (W.contents (inner_of writer.old)) (W.contents (inner_of writer.new)) out
         × FailsToRead outcome (failed_of reader.old) (failed_of reader.new)
@@ -48,7 +50,7 @@ pub fn run_library_script<R: Read, W: Write, E: Write>(
 {
     match library {
         Ok(inputs) => {
-            let outcome = script_over(alloc, inputs, reader, writer);
+            let outcome = script_over(alloc, rules, inputs, reader, writer);
             write_line(errors, line_of(outcome).as_bytes());
             status_of(outcome)
         }

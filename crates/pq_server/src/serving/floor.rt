@@ -8,11 +8,13 @@ ghost use Rattle.pq_session.specs.Reply.{out_of_memory_text};
 
 use crossbeam_channel::Receiver;
 use pq_core::{Label, OpenFault, Reply, Stamp};
-use pq_hall::{BoardName, Client, ClientEnds, Gate, Hall, HallFault, Mark, Moved, OneValue};
+use pq_hall::{
+    BoardName, Braces, Client, ClientEnds, Gate, Hall, HallFault, HallRules, Mark, Moved, OneValue,
+};
 use pq_mail::{
     CAPACITY, MailEnd, PorterEnd, Post, PostEnd, PostFault, Receipt, RightReply, TakeEnd,
 };
-use pq_proto::{ProtoKey, ProtoRules, ProtoValue};
+use pq_proto::{ProtoKey, ProtoValue};
 use pq_rules::Rules;
 use pq_session::{
     DiagnosticList, Memory, Root, definition_file, diagnostic_list, editor_text,
@@ -108,7 +110,7 @@ pub(crate) trait Texts: Rules {
     ) -> Result<Option<DiagnosticList>, AllocError>;
 }
 
-impl Texts for ProtoRules {
+impl<B: Braces> Texts for HallRules<B> {
     fn post_of(post: Post<ProtoKey>) -> Post<ProtoKey> {
         post
     }

@@ -14,7 +14,7 @@ use log::Log;
 use pq_core::{Stamp, Work};
 use pq_hall::{BoardName, Gate, Hall, NewBoard, OneValue};
 use pq_inputs::Inputs;
-use pq_proto::ProtoRules;
+use pq_rules::Rules;
 use std::alloc::Global;
 use std::marker::Brand;
 use std::net::TcpListener;
@@ -26,8 +26,8 @@ use std::time::Clock;
 /// A gate that holds nothing back.
 pub(crate) struct OpenGate;
 
-impl Gate<ProtoRules> for OpenGate {
-    fn pass<M: Stamp>(&self, _work: &Work<ProtoRules, M>) {}
+impl<S: Rules> Gate<S> for OpenGate {
+    fn pass<M: Stamp>(&self, _work: &Work<S, M>) {}
 }
 
 /// How much a server serves.
@@ -39,8 +39,8 @@ pub(crate) struct Size {
     pub(crate) sessions: Option<u32>,
 }
 
-/// Serves the connections of `listener` over the sources of `library`, with the workers and for the
-/// sessions of `size`. Each work passes `gate` before it is carried out. `folder` is the absolute path
+/// Serves the connections of `listener` over the sources of `library`, by `rules`, with the workers and
+/// for the sessions of `size`. Each work passes `gate` before it is carried out. `folder` is the absolute path
 /// of the folder of the library, if there is one.
 ///
 /// A connection beyond the clients that may be open is closed unanswered, and is no session. The port
@@ -49,9 +49,10 @@ pub(crate) struct Size {
 /// Returns 0 when so many sessions have ended. Returns 4 if no library was read, and if the port has
 /// failed; then the sessions that run have ended. Returns 5 if an allocation failed for the hall, or
 /// no thread could be started for a worker.
-pub(crate) fn serve<R, G>(
+pub(crate) fn serve<S, R, G>(
     rt: &R,
     alloc: Global,
+    rules: S,
     listener: TcpListener,
     library: Result<Inputs, LibraryFault>,
     folder: Option<&str>,
@@ -59,16 +60,20 @@ pub(crate) fn serve<R, G>(
     gate: &G,
 ) -> u8
 where
+    S: Texts + OneValue + Send + Sync + 'static,
+    S::Key: Send + Sync,
+    S::Value: Send + Sync,
+    S::Part: Send,
     R: Threads + Wait + Clock + Log + Copy + Drop + Send + Sync + 'static,
-    G: Gate<ProtoRules> + Sync,
+    G: Gate<S> + Sync,
 {
     let inputs = match library {
         Ok(inputs) => inputs,
         Err(fault) => return not_started(fault).0,
     };
     match NewBoard::new(alloc) {
-        Ok(board) => serve_in::<ProtoRules, Brand, R, G>(
-            rt, alloc, ProtoRules, board, listener, inputs, folder, size, gate,
+        Ok(board) => serve_in::<S, Brand, R, G>(
+            rt, alloc, rules, board, listener, inputs, folder, size, gate,
         ),
         Err(_) => OUT_OF_MEMORY,
     }

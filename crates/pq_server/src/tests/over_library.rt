@@ -3,6 +3,7 @@ use super::scratch::{make, path_of};
 use super::support::{check_text, split_row};
 use crate::library::{read_library, run_library_script};
 use pq_frame::{Memory, frame};
+use pq_proto::ProtoRules;
 use pq_session::Counted;
 use std::fs;
 use std::process::Abort;
@@ -70,7 +71,15 @@ fn status_over(
     let mut reader = Counted::new(sent);
     let mut writer = Counted::new(written);
     let mut errors = Counted::new(Vec::new(rt.alloc()));
-    run_library_script(rt.alloc(), library, &mut reader, &mut writer, &mut errors)
+    let rules = ProtoRules { loose: false };
+    run_library_script(
+        rt.alloc(),
+        rules,
+        library,
+        &mut reader,
+        &mut writer,
+        &mut errors,
+    )
 }
 
 /// Checks that `found` is `wanted`; `rows` names the session.

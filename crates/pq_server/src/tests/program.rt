@@ -6,6 +6,7 @@ use crate::status::{COMMAND_LINE, line_of, not_started, refused, run_script, sta
 use clap::error;
 use pq_frame::FrameFault;
 use pq_inputs::InputFault;
+use pq_proto::ProtoRules;
 use pq_session::{Counted, Memory, ScriptFault};
 use std::alloc::Global;
 use std::io;
@@ -221,6 +222,14 @@ fn outcomes_out_of_reach(rt: HostRuntime) -> Result<(), Fail> {
     check_outcome(&rt, ScriptFault::TooManyReads, "4 pq_server: read failed")
 }
 
+/// What is written of a task that reads braces or not.
+fn loose_word(loose: bool) -> &'static str {
+    if loose {
+        return " loose";
+    }
+    ""
+}
+
 /// What the command line `words`, which are separated by blanks, asks for, as text: `refused` if
 /// `clap` refuses it.
 fn shown_words(alloc: Global, words: &str) -> Result<String, Memory> {
@@ -229,18 +238,24 @@ fn shown_words(alloc: Global, words: &str) -> Result<String, Memory> {
         given.push(String::from_str(alloc, word)?)?;
     }
     match task_of(given.as_slice(), alloc) {
-        Ok(Task::Script { library }) => { format!(in alloc; "script {}", library.unwrap_or("-")) }
+        Ok(Task::Script { library, loose }) => {
+            let library = library.unwrap_or("-");
+            let loose = loose_word(loose);
+            format!(in alloc; "script {library}{loose}")
+        }
         Ok(
             Task::Listen {
                 port,
                 workers,
                 library,
                 sessions,
+                loose,
             },
         ) => {
             let library = library.unwrap_or("-");
             let sessions = sessions.unwrap_or(0);
-            format!(in alloc; "listen {port} {workers} {library} {sessions}")
+            let loose = loose_word(loose);
+            format!(in alloc; "listen {port} {workers} {library} {sessions}{loose}")
         }
         Ok(Task::Stdio { workers, roots }) => {
             let count = roots.len();
@@ -267,7 +282,7 @@ fn command_lines(rt: HostRuntime) -> Result<(), Fail> {
     assert_eq!(rt; COMMAND_LINE, 64);
     check_words(
         &rt,
-        9,
+        11,
         "\
         pq_server => refused\n\
         pq_server --help => refused\n\
@@ -277,7 +292,9 @@ fn command_lines(rt: HostRuntime) -> Result<(), Fail> {
         pq_server script --lib a --lib b => refused\n\
         pq_server script => script -\n\
         pq_server script --lib a/b => script a/b\n\
-        pq_server script --lib=a/b => script a/b\
+        pq_server script --lib=a/b => script a/b\n\
+        pq_server script --loose --lib a => script a loose\n\
+        pq_server script --loose --loose => refused\
         ",
     )
 }
@@ -287,7 +304,7 @@ fn command_lines(rt: HostRuntime) -> Result<(), Fail> {
 fn command_lines_of_listen(rt: HostRuntime) -> Result<(), Fail> {
     check_words(
         &rt,
-        14,
+        15,
         "\
         pq_server listen => refused\n\
         pq_server listen --port 1 => refused\n\
@@ -302,7 +319,8 @@ fn command_lines_of_listen(rt: HostRuntime) -> Result<(), Fail> {
         pq_server listen --port 0 --workers 1 => listen 0 1 - 0\n\
         pq_server listen --port 65535 --workers 32 => listen 65535 32 - 0\n\
         pq_server listen --port 1 --workers 2 --lib a/b --sessions 1 => listen 1 2 a/b 1\n\
-        pq_server listen --sessions 4294967295 --workers=2 --port=1 => listen 1 2 - 4294967295\
+        pq_server listen --sessions 4294967295 --workers=2 --port=1 => listen 1 2 - 4294967295\n\
+        pq_server listen --port 1 --workers 2 --loose => listen 1 2 - 0 loose\
         ",
     )
 }
@@ -328,7 +346,14 @@ fn libraries_that_are_not_taken(rt: HostRuntime) -> Result<(), Fail> {
     let mut line = Vec::new(rt.alloc());
     let mut errors = Counted::new(&mut line);
     let library = read_library(&rt, "");
-    let status = run_library_script(rt.alloc(), library, &mut reader, &mut writer, &mut errors);
+    let status = run_library_script(
+        rt.alloc(),
+        ProtoRules { loose: false },
+        library,
+        &mut reader,
+        &mut writer,
+        &mut errors,
+    );
     assert_eq!(rt; reader.reads(), 0);
     let found = shown_end(rt.alloc(), status, line.as_slice())?;
     check_text(

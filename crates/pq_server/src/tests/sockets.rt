@@ -10,8 +10,8 @@ use crate::serving::{OpenGate, Size, serve};
 use crate::status::run_script;
 use pq_core::{Stamp, Work};
 use pq_frame::frame;
-use pq_hall::Gate;
-use pq_proto::{ProtoKey, ProtoRules};
+use pq_hall::{Gate, HallRules, Strict};
+use pq_proto::ProtoKey;
 use pq_session::Counted;
 use std::io::{Read, Write};
 use std::net::{Net, Shutdown, SocketAddr, TcpListener, TcpStream};
@@ -185,6 +185,7 @@ fn the_stored_session(rt: HostRuntime) -> Result<(), Fail> {
         || serve(
             &rt,
             rt.alloc(),
+            HallRules::<Strict>::new(),
             listener,
             library,
             None,
@@ -213,6 +214,7 @@ fn a_library(rt: HostRuntime) -> Result<(), Fail> {
         || serve(
             &rt,
             rt.alloc(),
+            HallRules::<Strict>::new(),
             listener,
             library,
             None,
@@ -228,6 +230,7 @@ fn a_library(rt: HostRuntime) -> Result<(), Fail> {
     let status = serve(
         &rt,
         rt.alloc(),
+        HallRules::<Strict>::new(),
         listener,
         library,
         None,
@@ -285,6 +288,7 @@ fn a_refused_edit(rt: HostRuntime) -> Result<(), Fail> {
         || serve(
             &rt,
             rt.alloc(),
+            HallRules::<Strict>::new(),
             listener,
             library,
             None,
@@ -332,6 +336,7 @@ fn two_ends(rt: HostRuntime) -> Result<(), Fail> {
         || serve(
             &rt,
             rt.alloc(),
+            HallRules::<Strict>::new(),
             listener,
             library,
             None,
@@ -383,6 +388,7 @@ fn one_client_too_many(rt: HostRuntime) -> Result<(), Fail> {
         || serve(
             &rt,
             rt.alloc(),
+            HallRules::<Strict>::new(),
             listener,
             library,
             None,
@@ -409,8 +415,8 @@ struct Held<'a, R> {
     gave_up: &'a AtomicBool,
 }
 
-impl<R: Clock> Gate<ProtoRules> for Held<'_, R> {
-    fn pass<M: Stamp>(&self, work: &Work<ProtoRules, M>) {
+impl<R: Clock> Gate<HallRules<Strict>> for Held<'_, R> {
+    fn pass<M: Stamp>(&self, work: &Work<HallRules<Strict>, M>) {
         if !is_held(work.key()) {
             return;
         }
@@ -483,6 +489,7 @@ fn two_clients(rt: HostRuntime) -> Result<(), Fail> {
         || serve(
             &rt,
             rt.alloc(),
+            HallRules::<Strict>::new(),
             listener,
             library,
             None,

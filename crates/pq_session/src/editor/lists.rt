@@ -85,9 +85,9 @@ fn shown_list(alloc: Global, diagnosed: &Diagnosed) -> Result<String, AllocError
 /// reply that answers no diagnostics: a cancelled, starved, withdrawn or plain one, and an answer of
 /// another kind.
 ///
-/// Where an import of the file is not read, since the imported file has a syntax error, that error and
-/// the names of types that resolve to nothing have the severity of information (LSP 3.17,
-/// "DiagnosticSeverity"). Each other error has the severity of its code.
+/// An import of a file with a syntax error (P104) is left out, since that file shows the error itself.
+/// Where there is one, the names of types that resolve to nothing (P150) have the severity of
+/// information (LSP 3.17, "DiagnosticSeverity"). Each other error has the severity of its code.
 ///
 /// Only `Memory` is an error, after an allocation failure.
 pub fn diagnostic_list<M>(
@@ -95,8 +95,8 @@ pub fn diagnostic_list<M>(
     reply: &Reply<ProtoKey, ProtoValue, M>,
 ) -> Result<Option<DiagnosticList>, AllocError>
     // The list of the diagnostics that a reply answers, at the revision of the reply; `None` for a
-    // reply that answers none. Where an import has a syntax error, P104 and P150 are information in
-    // the list.
+    // reply that answers none. Where an import has a syntax error, P104 is not in the list, and P150 is
+    // information.
     ensures { IfOk result (λ list. list ≡ list_of reply.now) }
 {
     match answered_diagnostics(reply) {

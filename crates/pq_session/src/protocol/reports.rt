@@ -2,12 +2,13 @@
 //! "RelatedFullDocumentDiagnosticReport"), printed token by token.
 //!
 //! Each function that prints severities takes whether an import of the file is not read, as
-//! `severities` says. Where it is `false`, each diagnostic has the severity of its code.
-ghost use Rattle.std.specs.Prelude.{◌≡◌, ◌++◌, map, OnOk};
+//! `severities` says. Where it is `false`, each diagnostic is printed, with the severity of its code.
+ghost use Rattle.std.specs.Prelude.{◌≡◌, ◌++◌, [], cond, filter, map, OnOk};
 ghost use Rattle.pq_proto.specs.aux.Printed.{tokens_of, values_of};
-ghost use Rattle.pq_session.specs.Editor.{item_data, shown_data, shown_items, shown_report};
+ghost use Rattle.pq_session.specs.Editor.{is_shown as is_shown_diagnostic, item_data, shown_data, shown_items, shown_report};
+ghost use Rattle.pq_session.specs.aux.Shown.{shown_tokens};
 
-use crate::protocol::severities::shown_severity;
+use crate::protocol::severities::{is_shown, shown_severity};
 use pq_checks::{Diagnosed, Diagnostic};
 use pq_links::ParsedFile;
 use pq_proto::{Printer, position_in, print_range};
@@ -36,7 +37,39 @@ fn print_diagnostic(
     Ok(())
 }
 
-/// Prints the diagnostics `diagnostics` of a file that is read as `file`, one after the other.
+/// Prints the diagnostic `diagnostic` of a file that is read as `file`, with a severity of this
+/// number, if `holds`.
+fn print_if(
+    out: &mut Printer,
+    holds: bool,
+    severity: u64,
+    file: &ParsedFile,
+    diagnostic: &Diagnostic,
+) -> Result<(), AllocError>
+    ensures { OnOk result (out.new ≡ out.old ++ cond holds (tokens_of (item_data severity file.now diagnostic.now)) []) }
+{
+    if holds {
+        return print_diagnostic(out, severity, file, diagnostic);
+    }
+    Ok(())
+}
+
+/// Prints `diagnostic` of a file that is read as `file`, if it is shown.
+fn print_shown(
+    out: &mut Printer,
+    unread: bool,
+    file: &ParsedFile,
+    diagnostic: &Diagnostic,
+) -> Result<(), AllocError>
+    ensures { OnOk result (out.new ≡ out.old ++ shown_tokens unread file.now diagnostic.now) }
+{
+    let holds = is_shown(unread, diagnostic);
+    let severity = shown_severity(unread, diagnostic.code);
+    print_if(out, holds, severity, file, diagnostic)
+}
+
+/// Prints those of the diagnostics `diagnostics` of a file that is read as `file` that are shown, one
+/// after the other.
 fn print_diagnostics(
     out: &mut Printer,
     unread: bool,
@@ -44,11 +77,10 @@ fn print_diagnostics(
     diagnostics: &[Diagnostic],
 ) -> Result<(), AllocError>
     ensures { OnOk result (out.new
-        ≡ out.old ++ values_of (map (shown_data unread file.now) diagnostics.now)) }
+        ≡ out.old ++ values_of (map (shown_data unread file.now) (filter (is_shown_diagnostic unread) diagnostics.now))) }
 {
     'diagnostics: for diagnostic in diagnostics {
-        let severity = shown_severity(unread, diagnostic.code);
-        print_diagnostic(out, severity, file, diagnostic)?;
+        print_shown(out, unread, file, diagnostic)?;
     }
     Ok(())
 }

@@ -1,10 +1,10 @@
-//! The severities that an editor is shown (LSP 3.17, "DiagnosticSeverity").
+//! Which diagnostics an editor is shown, and their severities (LSP 3.17, "DiagnosticSeverity").
 //!
-//! An import of a file with a syntax error is not read, and so are the files of other versions of the
-//! language. The errors that may follow from that are shown as information: the import itself, and
-//! the names of types that resolve to nothing.
+//! An import of a file with an error of its own is not told: that file shows the error. It has the
+//! definitions that its braces show. So a name of a type that resolves to nothing may follow from the
+//! error, and is shown as information.
 ghost use Rattle.std.specs.Prelude.{◌≡◌};
-ghost use Rattle.pq_session.specs.Editor.{is_unread as is_unread_code, has_unread as has_unread_import, may_follow as may_follow_unread, shown_severity as severity_shown};
+ghost use Rattle.pq_session.specs.Editor.{is_unread as is_unread_code, has_unread as has_unread_import, may_follow as may_follow_unread, is_shown as is_shown_diagnostic, shown_severity as severity_shown};
 
 use pq_checks::{Code, Diagnostic, Severity};
 
@@ -28,7 +28,14 @@ pub(crate) fn has_unread(diagnostics: &[Diagnostic]) -> bool
 fn may_follow(code: Code) -> bool
     ensures { result ≡ may_follow_unread code }
 {
-    matches!(code, Code::ImportWithError | Code::TypeNotFound)
+    matches!(code, Code::TypeNotFound)
+}
+
+/// Whether `diagnostic` is shown, where `unread` is whether an import of the file is not read.
+pub(crate) fn is_shown(unread: bool, diagnostic: &Diagnostic) -> bool
+    ensures { result ≡ is_shown_diagnostic unread diagnostic.now }
+{
+    !(unread && is_unread(diagnostic.code))
 }
 
 /// The number of the severity that is shown of an error of the code `code`, where `unread` is whether

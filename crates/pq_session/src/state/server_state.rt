@@ -48,13 +48,13 @@ pub(crate) enum Step {
 }
 
 impl ServerState {
-    /// The state at the start of a session over the sources of `inputs`.
-    pub(crate) fn new(alloc: Global, inputs: Inputs) -> ServerState
-        ensures { state_of result ≡ started inputs.files inputs.revision }
+    /// The state at the start of a session over the sources of `inputs`, by these rules.
+    pub(crate) fn new(alloc: Global, rules: ProtoRules, inputs: Inputs) -> ServerState
+        ensures { state_of result ≡ started rules.loose inputs.files inputs.revision }
     {
         ServerState {
             session: Session::new(),
-            engine: Engine::new(alloc, ProtoRules, inputs),
+            engine: Engine::new(alloc, rules, inputs),
         }
     }
 
@@ -65,7 +65,7 @@ impl ServerState {
         key: &ProtoKey,
     ) -> Result<Shared<Answer<ProtoKey, ProtoValue>>, AllocError>
         ensures answer { IfOk result (λ answer.
-            Compiles (state_of self.old).files key.now answer) }
+            Compiles (state_of self.old).loose (state_of self.old).files key.now answer) }
         ensures kept { state_of self.new ≡ state_of self.old }
     {
         proto_values();

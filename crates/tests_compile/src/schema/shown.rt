@@ -102,7 +102,7 @@ fn add_parsed(page: &mut Page, parsed: &Parsed) {
 fn add_file(page: &mut Page, file: &ParsedFile) {
     match file {
         ParsedFile::Absent => page.add("absent"),
-        ParsedFile::Present { parsed, lines: _ } => add_parsed(page, parsed),
+        ParsedFile::Present { parsed, .. } => add_parsed(page, parsed),
     }
 }
 
@@ -110,7 +110,8 @@ fn add_file(page: &mut Page, file: &ParsedFile) {
 fn add_items(page: &mut Page, items: &FileItems) {
     match items {
         FileItems::Absent => page.add("absent"),
-        FileItems::Fault => page.add("fault"),
+        FileItems::Fault(_) => page.add("fault"),
+        FileItems::Other(_) => page.add("other version"),
         FileItems::Tree(file) => {
             page.number(file.as_slice().len());
             page.add(" statements");

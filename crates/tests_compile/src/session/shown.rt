@@ -1,6 +1,6 @@
 //! What an editor is shown: lists of diagnostics, replies, and notifications.
 //!
-//! The severities are those of the rule: where an import is not read, P104 and P150 are 3.
+//! Where an import is not read, P104 is not shown, and the severity of P150 is 3.
 use crate::checks::{check_text, check_that};
 use crate::sets::inputs_of;
 use pq_core::{Body, ClientId, Number, Outcome, Reply, Request, Want};
@@ -65,7 +65,7 @@ c: message M { M m = 1; }"#;
 
 /// The list of `a`: the type may be defined in `bad`, and the number is wrong in any case.
 const OF_A: &str =
-    r#"[{"code":"P104","message":"import \"bad\" has a syntax fault","range":{"end":{"character":12,"line":1},"start":{"character":7,"line":1}},"severity":3,"source":"proto"},{"code":"P150","message":"type \"N\" is not found","range":{"end":{"character":27,"line":1},"start":{"character":26,"line":1}},"severity":3,"source":"proto"},{"code":"P122","message":"field number 1 is used twice","range":{"end":{"character":42,"line":1},"start":{"character":41,"line":1}},"severity":1,"source":"proto"}]"#;
+    r#"[{"code":"P150","message":"type \"N\" is not found","range":{"end":{"character":27,"line":1},"start":{"character":26,"line":1}},"severity":3,"source":"proto"},{"code":"P122","message":"field number 1 is used twice","range":{"end":{"character":42,"line":1},"start":{"character":41,"line":1}},"severity":1,"source":"proto"}]"#;
 
 /// The list of `b`, whose imports are read.
 const OF_B: &str =
@@ -99,7 +99,7 @@ fn replies_for_an_editor(rt: HostRuntime) {
     check_reply(
         &rt,
         &reply,
-        r#"{"id":null,"jsonrpc":"2.0","result":{"items":[{"code":"P104","message":"import \"bad\" has a syntax fault","range":{"end":{"character":12,"line":1},"start":{"character":7,"line":1}},"severity":3,"source":"proto"}],"kind":"full","resultId":"2"}}"#,
+        r#"{"id":null,"jsonrpc":"2.0","result":{"items":[],"kind":"full","resultId":"2"}}"#,
     );
     check_that(&rt, definition_file(&reply).is_none(), "no definition");
 }

@@ -1,10 +1,10 @@
 //! Halls, as a script sees them: one trait, whatever the rules are and whatever names the marks.
 use crate::halls::answers::{add_fault, add_moved, add_reply};
 use pq_core::{OpenFault, Reply, Stamp};
-use pq_hall::{BoardName, Client, ClientEnds, Gate, Hall, Mark, OneValue};
+use pq_hall::{BoardName, Braces, Client, ClientEnds, Gate, Hall, HallRules, Mark, OneValue};
 use pq_inputs::Revision;
 use pq_mail::{MailEnd, PorterEnd, Post, PostEnd, PostFault, Receipt, TakeEnd};
-use pq_proto::{ProtoKey, ProtoRules, ProtoValue};
+use pq_proto::{ProtoKey, ProtoValue};
 use pq_rules::Rules;
 use pq_session::{Root, reply_text};
 use std::alloc::{AllocError, Global};
@@ -26,7 +26,7 @@ pub(crate) trait Texts: Rules {
     fn is_parse(key: &Self::Key, name: &str) -> bool;
 }
 
-impl Texts for ProtoRules {
+impl<B: Braces> Texts for HallRules<B> {
     fn post_of(post: Post<ProtoKey>) -> Post<ProtoKey> {
         post
     }

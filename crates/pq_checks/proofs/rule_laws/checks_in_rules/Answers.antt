@@ -5,7 +5,7 @@ use Rattle.pq_checks.proofs.rule_laws.checks_in_rules.Goals as goal
 
 pub returns : goal.returns
 returns g c = record {
-  means = λ files s q.
+  means = λ loose files s q.
       let m = over g.R.Key.Ord.cmp (g.R.Rules.machine c.args._rules.now) files in
-      checks_mean m files s q (schema_means m files s);
+      checks_mean m loose files s q (schema_means m loose files s);
 }

@@ -1,9 +1,8 @@
 use Rattle.pq_checks.specs.declared.errors.diagnostic.Diagnostic.{Diagnostic}
-use Rattle.pq_proto.specs.aux.Printed.{tokens_of}
-use Rattle.pq_session.specs.Editor.{shown_data}
+use Rattle.pq_session.specs.aux.Shown.{shown_tokens}
 use Rattle.pq_proto.proofs.ListSteps.{PrintedTo}
 use Rattle.pq_session.proofs.protocol.reports.print_diagnostics.Given as goal
 
 abbrev pub invariant-diagnostics : goal.invariant-diagnostics
 invariant-diagnostics l =
-    PrintedTo (λ (f : Diagnostic). tokens_of (shown_data l.fn.unread l.fn.file f)) l.fn.out l.out l.diagnostics l.diagnostic-index
+    PrintedTo (λ (f : Diagnostic). shown_tokens l.fn.unread l.fn.file f) l.fn.out l.out l.diagnostics l.diagnostic-index
