@@ -12,7 +12,6 @@ mod failure;
 mod fault;
 mod filling;
 mod folder;
-mod found;
 mod names;
 mod paths;
 mod reading;
@@ -23,9 +22,8 @@ mod walk;
 pub(crate) use failure::{Failure, say};
 pub(crate) use fault::LibraryFault;
 pub(crate) use folder::{no_library, read_library};
-pub(crate) use found::{is_file_at, names_found, text_found};
-pub(crate) use names::in_order;
 pub(crate) use paths::{absolute_of, joined};
 pub(crate) use serving::run_library_script;
 #[cfg(test)]
 pub(crate) use walk::MAX_DEPTH;
+pub(crate) use walk::is_folder;

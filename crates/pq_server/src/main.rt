@@ -16,14 +16,14 @@ mod tests;
 
 use clap::Error;
 use command::{Task, task_of};
-use editor::{Disk, Setup, serve_editor};
+use editor::{Disk, Lines, Setup, serve_editor};
 use library::{
     Failure, LibraryFault, absolute_of, no_library, read_library, run_library_script, say,
 };
 use log::Log;
 use pq_hall::{HallRules, Loose, Strict};
 use pq_proto::ProtoRules;
-use pq_session::{Counted, Root};
+use pq_session::{Counted, ScriptFault};
 use serving::{OpenGate, Size, serve};
 use status::{
     START_FAILED, line_of, not_started, refused, run_script, served, status_of, unannounced, unread,
@@ -129,35 +129,31 @@ where
     served(status)
 }
 
-/// The root of the folder `dir`, as a whole path. If that is not known, a line says why.
-fn root_of<R: Env + Files + AllocGlobal + Eprint>(rt: &R, dir: &str) -> Result<Root, LibraryFault> {
-    match absolute_of(rt, dir) {
-        Ok(path) => Ok(Root::at(rt.alloc(), path.as_str())?),
-        Err(error) => {
-            let failure = Failure::System(error);
-            say(rt, dir, &failure);
-            Err(failure.fault())
-        }
-    }
-}
-
-/// The roots of these folders.
+/// The folders, as whole paths. If one is not known, a line says why.
 fn roots_of<R: Env + Files + AllocGlobal + Eprint>(
     rt: &R,
     folders: &[&str],
-) -> Result<Vec<Root>, LibraryFault> {
+) -> Result<Vec<String>, LibraryFault> {
     let mut roots = Vec::new(rt.alloc());
     for folder in folders {
-        roots.push(root_of(rt, folder)?)?;
+        match absolute_of(rt, folder) {
+            Ok(path) => roots.push(path)?,
+            Err(error) => {
+                let failure = Failure::System(error);
+                say(rt, folder, &failure);
+                return Err(failure.fault());
+            }
+        }
     }
     Ok(roots)
 }
 
-/// Serves one editor from `input` to `output`. Returns the exit status.
+/// Serves one editor from `input` to `output`, with the root folders `folders`. Returns the exit status.
 fn run_for_editor<R, I, W>(rt: &R, input: I, output: W, workers: u8, folders: &[&str]) -> u8
 where
     R: Threads
         + Wait
+        + Clock
         + Env
         + Files
         + Disk
@@ -168,19 +164,56 @@ where
         + Send
         + Sync
         + 'static,
-    I: Read + Drop,
-    W: Write + Copy + Send + Sync,
+    I: Read + Drop + Send + 'static,
+    W: Write + Copy + Drop + Send + Sync + 'static,
 {
-    let (status, line) = match roots_of(rt, folders) {
-        Ok(roots) => {
-            let setup = Setup { workers, roots };
-            let outcome = serve_editor(rt, rt.alloc(), input, output, setup, &OpenGate);
-            (status_of(outcome), line_of(outcome))
+    let roots = match roots_of(rt, folders) {
+        Ok(roots) => roots,
+        Err(fault) => {
+            let (status, line) = not_started(fault);
+            let _ = eprint!(rt; "{line}");
+            return status;
         }
-        Err(fault) => not_started(fault),
     };
-    let _ = eprint!(rt; "{line}");
-    status
+    let Ok(lines) = Lines::start(rt) else {
+        let (status, line) = not_started(LibraryFault::Memory);
+        let _ = eprint!(rt; "{line}");
+        return status;
+    };
+    serve_with(rt, input, output, workers, roots, lines)
+}
+
+/// Serves one editor, and says on `lines` how it ended. Returns the exit status.
+fn serve_with<R, I, W>(
+    rt: &R,
+    input: I,
+    output: W,
+    workers: u8,
+    roots: Vec<String>,
+    lines: Lines,
+) -> u8
+where
+    R: Threads + Wait + Clock + Disk + AllocGlobal + Copy + Drop + Send + Sync + 'static,
+    I: Read + Drop + Send + 'static,
+    W: Write + Copy + Drop + Send + Sync + 'static,
+{
+    let outcome = match lines.copy() {
+        Ok(copy) => {
+            let setup = Setup {
+                workers,
+                roots,
+                lines: copy,
+            };
+            serve_editor(rt, rt.alloc(), input, output, setup, OpenGate)
+        }
+        Err(_) => Err(ScriptFault::Memory),
+    };
+    let line = line_of(outcome).trim_end();
+    if !line.is_empty() {
+        lines.say(rt, line);
+    }
+    lines.finish(rt);
+    status_of(outcome)
 }
 
 /// Says on standard error why `clap` refuses the words of the command line. Returns the exit status.

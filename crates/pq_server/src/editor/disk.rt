@@ -2,65 +2,195 @@
 //!
 //! The threads see the disk through a trait that has no types of its own: what a closure hands to a
 //! thread may rest on no bound that has some, as `Files` has.
-use crate::editor::roots::Roots;
-use crate::library::{in_order, is_file_at, joined, names_found, text_found};
-use pq_session::Memory;
+use crate::library::{Failure, is_folder, joined};
+use pq_inputs::MAX_TEXT;
+use pq_view::Stamp;
 use std::alloc::Global;
-use std::rt::Files;
+use std::fs;
+use std::fs::{Metadata, OpenFile};
+use std::io;
+use std::io::{ErrorKind, Read};
+use std::os::unix::fs::MetadataExt;
+use std::path;
+use std::rt::{Clock, Env, Files};
+use std::time::SystemTime;
+
+/// What a folder has.
+#[derive(Drop)]
+pub(crate) struct Listing {
+    /// The paths of the entries whose names end in `.proto` and that are no folders. A link among them
+    /// may lead to a file later.
+    pub(crate) files: Vec<String>,
+    /// The paths of the folders. A link to a folder is none.
+    pub(crate) folders: Vec<String>,
+    /// Why an entry was passed over, if one was: the first.
+    pub(crate) failure: Option<Failure>,
+}
 
 /// A disk with files and folders.
 pub(crate) trait Disk {
-    /// Whether a file is at `path`, or a link leads to one from there.
-    fn has_file(&self, path: &str) -> bool;
+    /// The path `path` with all links followed, from the root of the file system on, without `.`, `..`
+    /// and doubled slashes. `None` if nothing is there.
+    fn real_path(&self, path: &str) -> Option<String>;
 
-    /// The text of the file at `path`, if it can be read. A file that cannot be read leaves a line.
-    fn text_at(&self, path: &str) -> Result<Option<String>, Memory>;
+    /// The folder `path` as a whole path, without `.` and doubled slashes, and without `..`.
+    fn whole_path(&self, path: &str) -> Option<String>;
 
-    /// The `.proto` files below `folder`, a path with a slash at its end, in byte order of their
-    /// names. What cannot be read leaves a line, and is passed over.
-    fn names_in(&self, folder: &str) -> Result<Vec<String>, Memory>;
+    /// What the file system tells of the file at `path`, or of the file to which a link leads from
+    /// there. `None` if no file is there.
+    fn file_at(&self, path: &str) -> Option<Stamp>;
+
+    /// What the file system tells of the folder at `path`. `None` if no folder is there.
+    fn folder_at(&self, path: &str) -> Option<Stamp>;
+
+    /// What the folder `path` has.
+    fn list(&self, path: &str) -> Result<Listing, Failure>;
+
+    /// The text of the file at `path`. `None` if no file is there. It waits where a pipe is there.
+    fn text_at(&self, path: &str) -> Result<Option<String>, Failure>;
+
+    /// The seconds since 1970, by the clock of the system.
+    fn seconds(&self) -> i64;
 }
 
-impl<R: Files + AllocGlobal + Eprint + Clone + Drop> Disk for R {
-    fn has_file(&self, path: &str) -> bool {
-        is_file_at(self, path)
-    }
-
-    fn text_at(&self, path: &str) -> Result<Option<String>, Memory> {
-        text_found(self, path)
-    }
-
-    fn names_in(&self, folder: &str) -> Result<Vec<String>, Memory> {
-        let names = names_found(self, folder)?;
-        in_order(names)
-    }
-}
-
-/// The text of the file `name`: that of the first root below which it can be read, or `None`.
-///
-/// A file that cannot be read leaves a line, and is passed over.
-pub(crate) fn text_of<D: Disk>(
-    disk: &D,
-    alloc: Global,
-    roots: &Roots,
-    name: &str,
-) -> Result<Option<String>, Memory> {
-    for index in 0..roots.len() {
-        let path = roots.path_at(alloc, index, name)?;
-        if let Some(text) = disk.text_at(path.as_str())? {
-            return Ok(Some(text));
+impl<R: Files + Env + Clock + AllocGlobal + Clone + Drop> Disk for R {
+    fn real_path(&self, path: &str) -> Option<String> {
+        match fs::canonicalize(self, path) {
+            Ok(path) => Some(path.into_string()),
+            Err(_) => None,
         }
     }
-    Ok(None)
+
+    fn whole_path(&self, path: &str) -> Option<String> {
+        if path.split('/').any(|part| part == "..") {
+            return self.real_path(path);
+        }
+        match path::absolute(self, path) {
+            Ok(path) => Some(path.into_string()),
+            Err(_) => None,
+        }
+    }
+
+    fn file_at(&self, path: &str) -> Option<Stamp> {
+        match fs::metadata(self, path) {
+            Ok(metadata) if metadata.is_file() => Some(stamp_of(&metadata)),
+            _ => None,
+        }
+    }
+
+    fn folder_at(&self, path: &str) -> Option<Stamp> {
+        match fs::metadata(self, path) {
+            Ok(metadata) if metadata.is_dir() => Some(stamp_of(&metadata)),
+            _ => None,
+        }
+    }
+
+    fn list(&self, path: &str) -> Result<Listing, Failure> {
+        listing_of(self, path)
+    }
+
+    fn text_at(&self, path: &str) -> Result<Option<String>, Failure> {
+        match text_of(self, path) {
+            // It was deleted since.
+            Err(Failure::System(error)) if error.kind() == ErrorKind::NotFound => Ok(None),
+            read => read,
+        }
+    }
+
+    fn seconds(&self) -> i64 {
+        match SystemTime::now(self) {
+            Ok(now) => seconds_of(now),
+            Err(_) => 0,
+        }
+    }
 }
 
-/// The text of the file `name` below `folder`, if it can be read.
-pub(crate) fn text_in<D: Disk>(
-    disk: &D,
-    alloc: Global,
-    folder: &str,
-    name: &str,
-) -> Result<Option<String>, Memory> {
-    let path = joined(alloc, folder, name)?;
-    disk.text_at(path.as_str())
+/// The seconds from 1970 to `now`.
+fn seconds_of(now: SystemTime) -> i64 {
+    match now.duration_since(SystemTime::UNIX_EPOCH) {
+        Ok(since) => i64::try_from(since.as_secs()).unwrap_or(i64::MAX),
+        Err(_) => 0,
+    }
+}
+
+/// What `metadata` tells.
+fn stamp_of(metadata: &Metadata) -> Stamp {
+    Stamp {
+        device: metadata.dev(),
+        inode: metadata.ino(),
+        size: metadata.size(),
+        modified_seconds: metadata.mtime(),
+        modified_nanos: metadata.mtime_nsec(),
+        changed_seconds: metadata.ctime(),
+        changed_nanos: metadata.ctime_nsec(),
+    }
+}
+
+/// What the folder `path` has. An entry that cannot be looked at is passed over.
+fn listing_of<R: Files + AllocGlobal + Clone + Drop>(
+    rt: &R,
+    path: &str,
+) -> Result<Listing, Failure> {
+    let alloc = rt.alloc();
+    let mut listing = Listing {
+        files: Vec::new(alloc),
+        folders: Vec::new(alloc),
+        failure: None,
+    };
+    let base = joined(alloc, path, "/")?;
+    for entry in fs::read_dir(rt, path)? {
+        match entry {
+            Ok(entry) => {
+                let path = joined(alloc, base.as_str(), entry.file_name())?;
+                add_entry(rt, &mut listing, path)?;
+            }
+            Err(error) => listing.pass_over(Failure::of_entry(error)),
+        }
+    }
+    Ok(listing)
+}
+
+/// Adds the entry at `path` to `listing`.
+fn add_entry<R: Files + AllocGlobal>(
+    rt: &R,
+    listing: &mut Listing,
+    path: String,
+) -> Result<(), Failure> {
+    match is_folder(rt, path.as_str()) {
+        Ok(true) => listing.folders.push(path)?,
+        Ok(false) => {
+            if path.ends_with(".proto") {
+                listing.files.push(path)?;
+            }
+        }
+        Err(error) => listing.pass_over(Failure::System(error)),
+    }
+    Ok(())
+}
+
+impl Listing {
+    /// Keeps `failure`, if it is the first.
+    fn pass_over(&mut self, failure: Failure) {
+        if self.failure.is_none() {
+            self.failure = Some(failure);
+        }
+    }
+}
+
+/// The text of the file at `path`. `None` if something else is there, once it was opened.
+fn text_of<R: Files + AllocGlobal>(rt: &R, path: &str) -> Result<Option<String>, Failure> {
+    let mut bytes = Vec::new(rt.alloc());
+    let file = fs::open(rt, path)?;
+    if !file.metadata()?.is_file() {
+        return Ok(None);
+    }
+    let mut file = file.take(MAX_TEXT as u64 + 1);
+    file.read_to_end(&mut bytes)?;
+    if bytes.len() > MAX_TEXT {
+        return Err(Failure::TextTooLong);
+    }
+    match String::from_utf8(bytes) {
+        Ok(text) => Ok(Some(text)),
+        Err(_) => Err(Failure::TextNotUtf8),
+    }
 }

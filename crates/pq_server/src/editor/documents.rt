@@ -1,6 +1,8 @@
 //! The documents that an editor has open.
-use crate::editor::rounds::{Asked, Gone};
+use crate::editor::rounds::Asked;
+use pq_inputs::MAX_TEXT;
 use pq_session::Memory;
+use pq_view::{Owed, Text};
 use std::alloc::Global;
 
 /// A document that an editor has open.
@@ -8,18 +10,25 @@ use std::alloc::Global;
 pub(crate) struct Document {
     /// Documents that are opened later have greater numbers.
     pub(crate) number: u64,
-    /// The path of its file.
-    pub(crate) path: String,
+    /// Its path as the editor writes it.
+    pub(crate) face: String,
+    /// The path of its file, with all links to its folder followed.
+    pub(crate) path: Text,
     /// Its URI, as the editor writes it.
     pub(crate) uri: String,
     /// Its version, if the editor gives one.
     pub(crate) version: Option<i64>,
-    /// The names of its file, at least one.
-    pub(crate) names: Vec<String>,
-    /// Its text. It is `None` before the first one.
-    pub(crate) text: Option<String>,
-    /// Whether its text is that of the file in the hall. Otherwise a limit refuses it.
-    pub(crate) is_kept: bool,
+    /// The name by which its diagnostics are asked.
+    pub(crate) name: Text,
+    /// Its text.
+    pub(crate) text: Text,
+}
+
+impl Document {
+    /// Whether its text is short enough for a file.
+    pub(crate) fn has_room(&self) -> bool {
+        self.text.as_str().len() <= MAX_TEXT
+    }
 }
 
 /// The documents that an editor has open, the one that was changed last first.
@@ -40,45 +49,34 @@ impl Documents {
         }
     }
 
-    /// Whether the file at `path` is open.
-    pub(crate) fn has_path(&self, path: &str) -> bool {
-        self.list.iter().any(|it| it.path.as_str() == path)
+    /// The number of the next document.
+    pub(crate) fn next_number(&mut self) -> u64 {
+        let number = self.next;
+        self.next = number.wrapping_add(1);
+        number
     }
 
-    /// The name by which the file at `path` is asked for, if it is open.
-    pub(crate) fn name_at(&self, path: &str) -> Option<&str> {
-        let document = self.list.iter().find(|it| it.path.as_str() == path)?;
-        match document.names.first() {
-            Some(name) => Some(name.as_str()),
-            None => None,
-        }
+    /// The document that the editor writes as `face`.
+    pub(crate) fn find(&self, face: &str) -> Option<&Document> {
+        self.list.iter().find(|it| it.face.as_str() == face)
     }
 
-    /// Whether an open document has the file `name`.
-    pub(crate) fn has_name(&self, name: &str) -> bool {
-        self.list
-            .iter()
-            .any(|it| it.names.iter().any(|its| its.as_str() == name))
-    }
-
-    /// Takes out the document at `path`, if it is open.
-    pub(crate) fn take(&mut self, path: &str) -> Option<Document> {
-        let place = self.list.iter().position(|it| it.path.as_str() == path)?;
+    /// Takes out the document that the editor writes as `face`, if it is open.
+    pub(crate) fn take(&mut self, face: &str) -> Option<Document> {
+        let place = self.list.iter().position(|it| it.face.as_str() == face)?;
         Some(self.list.remove(place))
     }
 
-    /// A document with these names, which is not yet among the open ones.
-    pub(crate) fn fresh(&mut self, path: String, uri: String, names: Vec<String>) -> Document {
-        let number = self.next;
-        self.next = number.wrapping_add(1);
-        Document {
-            number,
-            path,
-            uri,
-            version: None,
-            names,
-            text: None,
-            is_kept: true,
+    /// A document whose file is at `path`: of several the one that was changed last.
+    pub(crate) fn at(&self, path: &str) -> Option<&Document> {
+        self.list.iter().find(|it| it.path.as_str() == path)
+    }
+
+    /// The URI of the document whose file is at `path`.
+    pub(crate) fn uri_at(&self, path: &str) -> Option<&str> {
+        match self.at(path) {
+            Some(document) => Some(document.uri.as_str()),
+            None => None,
         }
     }
 
@@ -88,38 +86,38 @@ impl Documents {
         Ok(())
     }
 
-    /// The documents whose diagnostics are asked for: those that no limit refuses.
-    pub(crate) fn asked(&self) -> Result<Vec<Asked>, Memory> {
+    /// Gives each document the name that `owed` has for its path. The paths of `owed` are in byte order.
+    pub(crate) fn name_all(&mut self, owed: &[Owed]) -> Result<(), Memory> {
+        for document in &mut self.list {
+            let path = document.path.as_str();
+            if let Ok(place) = owed.binary_search_by(|it| it.path.as_str().cmp(path)) {
+                if let Some(found) = owed.get(place) {
+                    document.name = found.name.copy()?;
+                }
+            }
+        }
+        Ok(())
+    }
+
+    /// The documents whose diagnostics are asked for: those whose texts are short enough and whose names
+    /// `is_known` holds for.
+    pub(crate) fn asked<P: Fn(&str) -> bool>(&self, is_known: P) -> Result<Vec<Asked>, Memory> {
         let mut asked = Vec::new(self.alloc);
         for document in &self.list {
-            if let Some(it) = asked_of(self.alloc, document)? {
-                asked.push(it)?;
+            if document.has_room() && is_known(document.name.as_str()) {
+                asked.push(asked_of(self.alloc, document)?)?;
             }
         }
         Ok(asked)
     }
 }
 
-/// What is asked for `document`. `None` if a limit refuses it.
-fn asked_of(alloc: Global, document: &Document) -> Result<Option<Asked>, Memory> {
-    let Some(name) = document.names.first() else {
-        return Ok(None);
-    };
-    if !document.is_kept {
-        return Ok(None);
-    }
-    Ok(Some(Asked {
+/// What is asked for `document`.
+fn asked_of(alloc: Global, document: &Document) -> Result<Asked, Memory> {
+    Ok(Asked {
         number: document.number,
         uri: String::from_str(alloc, document.uri.as_str())?,
-        name: String::from_str(alloc, name.as_str())?,
+        name: document.name.copy()?,
         version: document.version,
-    }))
-}
-
-/// That `document` shows no diagnostics any more.
-pub(crate) fn gone_of(alloc: Global, document: &Document) -> Result<Gone, Memory> {
-    Ok(Gone {
-        number: document.number,
-        uri: String::from_str(alloc, document.uri.as_str())?,
     })
 }

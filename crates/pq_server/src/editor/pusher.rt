@@ -1,12 +1,13 @@
 //! The pusher of an editor's session: after each edit it asks for the diagnostics of the open
 //! documents, and sends those that changed.
 //!
-//! It is a client of the hall of its own, so that its requests take no place of the editor's. An edit
-//! that comes while it asks overtakes its request, and the round of that edit comes next.
+//! It is a client of the hall of its own, so that its requests take no place of the editor's. It asks
+//! for several lists at a time, so that all workers have something to do. An edit that comes while it
+//! asks overtakes its requests, and the round of that edit comes next.
 use crate::editor::line::{Handed, Line};
 use crate::editor::output::Output;
-use crate::editor::rounds::{Asked, Gone, Round, Rounds};
-use crate::serving::floor::{Ends, Floor, NoText};
+use crate::editor::rounds::{Asked, Round, Rounds};
+use crate::serving::floor::{Floor, NoText};
 use crossbeam_channel::Receiver;
 use pq_hall::Client;
 use pq_mail::Post;
@@ -14,15 +15,29 @@ use pq_session::{
     DiagnosticList, LastSent, Memory, ScriptFault, diagnostics_of, empty_list, published_text,
 };
 use std::alloc::Global;
+use std::collections::VecDeque;
 use std::io::Write;
 use std::sync::Wait;
+
+/// How many lists are asked for at a time.
+const AT_ONCE: usize = 16;
 
 /// What was sent last for a document.
 #[derive(Drop)]
 struct Sent {
     /// The number of the document.
     number: u64,
+    /// Its URI, as the editor writes it.
+    uri: String,
     last: LastSent,
+}
+
+/// A list that was asked for.
+#[derive(Drop)]
+struct Owed<Q> {
+    /// The index of the document in the round.
+    place: usize,
+    receipt: Q,
 }
 
 /// What the pusher holds: its line, its end that takes, the way to the editor, and what was sent.
@@ -65,47 +80,104 @@ impl<'a, F: Floor<H>, H: Wait, W: Write + Copy> Pusher<'a, F, H, W> {
     /// Pushes what `round` asks for, up to the round that overtakes it. Returns whether the pusher
     /// goes on.
     fn push_round(&mut self, round: &Round) -> Result<bool, ScriptFault> {
-        for gone in &round.gone {
-            self.withdraw(gone)?;
-        }
-        for asked in &round.asked {
+        self.withdraw_others(round)?;
+        let mut owed = VecDeque::new(self.alloc);
+        for place in 0..round.asked.len() {
             if self.rounds.is_overtaken(self.rt) {
-                return Ok(true);
+                break;
             }
-            if !self.push_one(asked, round.revision)? {
+            if owed.len() >= AT_ONCE && !self.push_next(round, &mut owed)? {
+                return Ok(false);
+            }
+            if !self.ask(round, place, &mut owed)? {
+                return Ok(false);
+            }
+        }
+        for _ in 0..AT_ONCE {
+            if owed.is_empty() {
+                break;
+            }
+            if !self.push_next(round, &mut owed)? {
                 return Ok(false);
             }
         }
         Ok(true)
     }
 
-    /// Sends the empty list for a document that is gone, if anything was sent for it.
-    fn withdraw(&mut self, gone: &Gone) -> Result<(), ScriptFault> {
-        if !self.forget(gone.number) {
-            return Ok(());
+    /// Sends the empty list for each document for which something was sent, and that `round` does not
+    /// ask for.
+    fn withdraw_others(&mut self, round: &Round) -> Result<(), ScriptFault> {
+        for number in self.others_than(round)? {
+            self.withdraw(number)?;
         }
-        let text = published_text(self.alloc, gone.uri.as_str(), None, empty_list())?;
-        self.output.send(self.rt, text.as_str())
+        Ok(())
     }
 
-    /// Asks for the diagnostics of a document, and sends them if they are news. Returns whether the
-    /// pusher goes on.
+    /// The numbers of the documents for which something was sent, and that `round` does not ask for.
+    fn others_than(&self, round: &Round) -> Result<Vec<u64>, Memory> {
+        let numbers = numbers_of(self.alloc, round)?;
+        let mut others = Vec::new(self.alloc);
+        for sent in &self.sent {
+            if numbers.binary_search(&sent.number).is_err() {
+                others.push(sent.number)?;
+            }
+        }
+        Ok(others)
+    }
+
+    /// Sends the empty list for the document with this number, and forgets it.
+    fn withdraw(&mut self, number: u64) -> Result<(), ScriptFault> {
+        let Some(sent) = self.forget(number) else {
+            return Ok(());
+        };
+        let text = published_text(self.alloc, sent.uri.as_str(), None, empty_list())?;
+        self.output.send_list(self.rt, text.as_str())
+    }
+
+    /// Asks for the diagnostics of the document at `place` of `round`. Returns whether the pusher goes on.
     ///
-    /// An allocation failure of its own sends nothing: the document is asked for again at the next
+    /// An allocation failure of its own asks for nothing: the document is asked for again at the next
     /// edit.
-    fn push_one(&mut self, asked: &Asked, revision: u64) -> Result<bool, ScriptFault> {
+    fn ask(
+        &mut self,
+        round: &Round,
+        place: usize,
+        owed: &mut VecDeque<Owed<F::Receipt>>,
+    ) -> Result<bool, ScriptFault> {
+        let Some(asked) = round.asked.get(place) else {
+            return Ok(true);
+        };
         let Ok(request) = diagnostics_of(self.alloc, asked.name.as_str()) else {
             return Ok(true);
         };
         let Handed::Asked(receipt) = self.line.hand_in(Post::Ask(request))? else {
             return Ok(false);
         };
+        match owed.push_back(Owed { place, receipt }) {
+            Ok(()) => Ok(true),
+            Err(_) => Err(ScriptFault::Memory),
+        }
+    }
+
+    /// Takes the list that was asked for first of those of `owed`, and sends it if it is news. Returns
+    /// whether the pusher goes on.
+    fn push_next(
+        &mut self,
+        round: &Round,
+        owed: &mut VecDeque<Owed<F::Receipt>>,
+    ) -> Result<bool, ScriptFault> {
+        let Some(Owed { place, receipt }) = owed.pop_front() else {
+            return Ok(true);
+        };
+        let Some(asked) = round.asked.get(place) else {
+            return Ok(true);
+        };
         let client = self.line.client();
         match self
             .floor
             .list(self.rt, self.alloc, client, &mut self.take, &receipt)
         {
-            Ok(Some(list)) if list.revision() == revision => self.send_list(asked, list)?,
+            Ok(Some(list)) if list.revision() == round.revision => self.send_list(asked, list)?,
             Err(NoText::Closed) => return Ok(false),
             _ => {}
         }
@@ -116,10 +188,10 @@ impl<'a, F: Floor<H>, H: Wait, W: Write + Copy> Pusher<'a, F, H, W> {
     /// whatever it is.
     fn send_list(&mut self, asked: &Asked, list: DiagnosticList) -> Result<(), ScriptFault> {
         let (rt, output) = (self.rt, self.output);
-        let Ok(last) = self.last_of(asked.number) else {
+        let Ok(last) = self.last_of(asked) else {
             return Ok(());
         };
-        if !last.replace(list) {
+        if !last.replace(list, asked.version) {
             return Ok(());
         }
         match publish(rt, output, asked, last.text()) {
@@ -131,38 +203,44 @@ impl<'a, F: Floor<H>, H: Wait, W: Write + Copy> Pusher<'a, F, H, W> {
         }
     }
 
-    /// Forgets what was sent for the document with this number. Returns whether anything was.
-    fn forget(&mut self, number: u64) -> bool {
-        match self.sent.iter().position(|it| it.number == number) {
-            Some(place) => {
-                let _sent = self.sent.remove(place);
-                true
-            }
-            None => false,
-        }
+    /// Forgets what was sent for the document with this number. Returns it, if anything was.
+    fn forget(&mut self, number: u64) -> Option<Sent> {
+        let place = self.sent.iter().position(|it| it.number == number)?;
+        Some(self.sent.remove(place))
     }
 
-    /// What was sent last for the document with this number.
-    fn last_of(&mut self, number: u64) -> Result<&mut LastSent, Memory> {
-        let place = self.place_of(number)?;
+    /// What was sent last for a document.
+    fn last_of(&mut self, asked: &Asked) -> Result<&mut LastSent, Memory> {
+        let place = self.place_of(asked)?;
         match self.sent.get_mut(place) {
             Some(sent) => Ok(&mut sent.last),
             None => Err(Memory),
         }
     }
 
-    /// The place of the document with this number among those for which something was sent. It is
-    /// added if it is not there.
-    fn place_of(&mut self, number: u64) -> Result<usize, Memory> {
+    /// The place of a document among those for which something was sent. It is added if it is not there.
+    fn place_of(&mut self, asked: &Asked) -> Result<usize, Memory> {
+        let number = asked.number;
         match self.sent.binary_search_by_key(&number, |it| it.number) {
             Ok(place) => Ok(place),
             Err(place) => {
+                let uri = String::from_str(self.alloc, asked.uri.as_str())?;
                 let last = LastSent::new();
-                self.sent.insert(place, Sent { number, last })?;
+                self.sent.insert(place, Sent { number, uri, last })?;
                 Ok(place)
             }
         }
     }
+}
+
+/// The numbers of the documents that `round` asks for, in their order.
+fn numbers_of(alloc: Global, round: &Round) -> Result<Vec<u64>, Memory> {
+    let mut numbers = Vec::new(alloc);
+    for asked in &round.asked {
+        numbers.push(asked.number)?;
+    }
+    numbers.sort()?;
+    Ok(numbers)
 }
 
 /// Sends the list `text` for a document.
@@ -173,10 +251,10 @@ fn publish<H: Wait, W: Write + Copy>(
     text: &str,
 ) -> Result<(), ScriptFault> {
     let body = published_text(output.alloc(), asked.uri.as_str(), asked.version, text)?;
-    output.send(rt, body.as_str())
+    output.send_list(rt, body.as_str())
 }
 
-/// Pushes the rounds of `rounds` by the client `pushing`, one for each bell, until the bell is gone or
+/// Pushes the rounds of `rounds` by the client of `line`, one for each bell, until the bell is gone or
 /// that client is closed.
 ///
 /// A failed write ends it, and so does an allocation failure of a request or of an empty list. The
@@ -186,8 +264,8 @@ pub(crate) fn push_all<'a, F, H, W>(
     alloc: Global,
     floor: &'a F,
     editor: Client,
-    pushing: Client,
-    ends: Ends<F::Post, F::Porter, F::Take>,
+    line: Line<'a, F, H>,
+    take: F::Take,
     rounds: &'a Rounds,
     output: &'a Output<W>,
     bell: Receiver<()>,
@@ -197,7 +275,6 @@ where
     H: Wait,
     W: Write + Copy,
 {
-    let (line, take) = Line::new(rt, floor, pushing, ends);
     let mut pusher = Pusher::new(rt, alloc, floor, line, take, rounds, output);
     for _ in rt.forever() {
         if bell.recv(rt).is_err() {

@@ -1,53 +1,146 @@
-//! The session of an editor: its hall, its workers, and its three threads.
+//! The session of an editor: its hall, its workers, and its threads.
+//!
+//! All of it runs beside the thread that calls `serve_editor`. That thread returns soon after the end of
+//! the session, whatever the others are at: the program ends then, and nothing is owed to the client.
 ghost use Rattle.std.specs.Prelude.{◌≡◌};
 
-use crate::editor::desk::Desk;
+use crate::editor::desk::{Desk, Ways};
 use crate::editor::disk::Disk;
+use crate::editor::files::Files;
 use crate::editor::line::Line;
+use crate::editor::lines::Lines;
+use crate::editor::looker::{Call, look_all};
 use crate::editor::output::Output;
 use crate::editor::pusher::push_all;
-use crate::editor::reader::{Pushes, read_all_messages};
+use crate::editor::reader::read_all_messages;
 use crate::editor::rounds::Rounds;
 use crate::editor::writer::write_all_replies;
 use crate::library::no_library;
 use crate::serving::floor::{Floor, Texts, Works};
-use pq_hall::{BoardName, Gate, Hall, HallRules, Loose, NewBoard, OneValue};
+use crossbeam_channel::{Receiver, Sender};
+use pq_hall::{BoardName, Client, Gate, Hall, HallRules, Loose, NewBoard, OneValue};
 use pq_inputs::Inputs;
-use pq_session::{Root, ScriptFault};
+use pq_session::ScriptFault;
 use std::alloc::Global;
 use std::io::{Read, Write};
 use std::marker::Brand;
-use std::sync::Wait;
+use std::sync::{Mutex, Wait};
 use std::thread;
-use std::thread::{Scope, Threads};
+use std::thread::{JoinHandle, Scope, Threads};
+use std::time::{Clock, Duration};
 
 /// The receipts that may wait for the writer.
 const RECEIPTS: usize = 32;
+
+/// How long the replies that are owed at the end of a session are waited for, in milliseconds.
+const PATIENCE: u64 = 50;
+
+/// What is known of the end of a session.
+#[derive(Clone, Copy, Debug)]
+enum End {
+    /// It will end so.
+    Soon(Result<u8, ScriptFault>),
+    /// All threads have ended.
+    Whole(Result<u8, ScriptFault>),
+}
+
+/// The way on which a thread says that the session is to end.
+type Ends = Sender<End>;
 
 /// How a session is set up.
 #[derive(Drop)]
 pub(crate) struct Setup {
     /// The number of workers, from 1 to 32.
     pub(crate) workers: u8,
-    /// The roots that the command line names.
-    pub(crate) roots: Vec<Root>,
+    /// The roots that the command line names, as it writes them.
+    pub(crate) roots: Vec<String>,
+    /// Where the session says what it passes over.
+    pub(crate) lines: Lines,
 }
 
 /// Serves one editor from `input` to `output`. Braces are read: a text with an error has the
 /// definitions that they show. Each work passes `gate` before it is carried out.
 ///
-/// Returns the status with which the session ended. `Memory` also says that a thread could not be
-/// started.
+/// Returns the status with which the session ended. What is owed to the client at its end is waited for
+/// 50 milliseconds; then threads may still run, and the program is to end. `Memory` also says that a
+/// thread could not be started.
 pub(crate) fn serve_editor<R, I, W, G>(
     rt: &R,
     alloc: Global,
     input: I,
     output: W,
     setup: Setup,
-    gate: &G,
+    gate: G,
 ) -> Result<u8, ScriptFault>
 where
-    R: Threads + Wait + Disk + AllocGlobal + Eprint + Copy + Drop + Send + Sync + 'static,
+    R: Threads + Wait + Clock + Disk + AllocGlobal + Copy + Drop + Send + Sync + 'static,
+    I: Read + Drop + Send + 'static,
+    W: Write + Copy + Drop + Send + Sync + 'static,
+    G: Gate<HallRules<Loose>> + Copy + Drop + Send + Sync + 'static,
+{
+    let (ends, ended) = crossbeam_channel::bounded(alloc, 8)?;
+    let host = *rt;
+    match thread::spawn(rt, move || serve_beside(
+        &host, alloc, input, output, setup, &gate, ends,
+    )) {
+        Ok(_) => {}
+        Err(_) => return Err(ScriptFault::Memory),
+    }
+    let Ok(first) = ended.recv(rt) else {
+        return Err(ScriptFault::Memory);
+    };
+    Ok(last_of(rt, ended, first)?)
+}
+
+/// How the session ended, of which `first` is known: what `ended` says within the time of patience, else
+/// `first`.
+fn last_of<R: Wait + Clock>(rt: &R, ended: Receiver<End>, first: End) -> Result<u8, ScriptFault> {
+    let soon = match first {
+        End::Whole(outcome) => return outcome,
+        End::Soon(outcome) => outcome,
+    };
+    for _ in 0..8 {
+        match ended.recv_timeout(rt, Duration::from_millis(PATIENCE)) {
+            Ok(End::Whole(outcome)) => return outcome,
+            Ok(End::Soon(_)) => {}
+            Err(_) => return soon,
+        }
+    }
+    soon
+}
+
+/// Serves the editor, and says on `ends` how it ended.
+fn serve_beside<R, I, W, G>(
+    rt: &R,
+    alloc: Global,
+    input: I,
+    output: W,
+    setup: Setup,
+    gate: &G,
+    ends: Ends,
+)
+where
+    R: Threads + Wait + Clock + Disk + AllocGlobal + Copy + Drop + Send + Sync + 'static,
+    I: Read + Drop,
+    W: Write + Copy + Send + Sync,
+    G: Gate<HallRules<Loose>> + Sync,
+{
+    let outcome = serve_all(rt, alloc, input, output, setup, gate, &ends);
+    let _ = ends.send(rt, End::Whole(outcome));
+}
+
+/// Serves the editor over a hall of its own.
+fn serve_all<R, I, W, G>(
+    rt: &R,
+    alloc: Global,
+    input: I,
+    output: W,
+    setup: Setup,
+    gate: &G,
+    ends: &Ends,
+) -> Result<u8, ScriptFault>
+where
+    R: Threads + Wait + Clock + Disk + AllocGlobal + Copy + Drop + Send + Sync + 'static,
     I: Read + Drop,
     W: Write + Copy + Send + Sync,
     G: Gate<HallRules<Loose>> + Sync,
@@ -66,6 +159,7 @@ where
             output,
             setup,
             gate,
+            ends,
         ),
         Err(_) => Err(ScriptFault::Memory),
     }
@@ -82,6 +176,7 @@ fn serve_in<S, J, R, I, W, G>(
     output: W,
     setup: Setup,
     gate: &G,
+    ends: &Ends,
 ) -> Result<u8, ScriptFault>
 where
     S: Texts + OneValue + Send + Sync + 'static,
@@ -89,7 +184,7 @@ where
     S::Value: Send + Sync,
     S::Part: Send,
     J: BoardName + Send + Sync + 'static,
-    R: Threads + Wait + Disk + AllocGlobal + Eprint + Copy + Drop + Send + Sync + 'static,
+    R: Threads + Wait + Clock + Disk + AllocGlobal + Copy + Drop + Send + Sync + 'static,
     I: Read + Drop,
     W: Write + Copy + Send + Sync,
     G: Gate<S> + Sync,
@@ -97,7 +192,7 @@ where
 {
     let made: Result<Hall<S, J, R>, _> = Hall::new(rt, alloc, rules, board, inputs);
     match made {
-        Ok(hall) => run(rt, alloc, &hall, input, output, setup, gate),
+        Ok(hall) => run(rt, alloc, &hall, input, output, setup, gate, ends),
         Err(_) => Err(ScriptFault::Memory),
     }
 }
@@ -111,15 +206,20 @@ fn run<F, R, I, W, G>(
     output: W,
     setup: Setup,
     gate: &G,
+    ends: &Ends,
 ) -> Result<u8, ScriptFault>
 where
     F: Floor<R> + Works<G, R>,
-    R: Threads + Wait + Disk + AllocGlobal + Eprint + Sync,
+    R: Threads + Wait + Clock + Disk + AllocGlobal + Copy + Drop + Send + Sync + 'static,
     I: Read + Drop,
     W: Write + Copy + Send + Sync,
     G: Sync,
 {
-    let Setup { workers, roots } = setup;
+    let Setup {
+        workers,
+        roots,
+        lines,
+    } = setup;
     thread::scope(thread::scope_env(), rt, move |scope| {
         let mut has_all = true;
         for _ in 0..workers {
@@ -128,7 +228,7 @@ where
             }
         }
         let outcome = if has_all {
-            run_clients(rt, alloc, floor, input, output, roots)
+            run_clients(rt, alloc, floor, input, output, roots, lines, ends)
         } else {
             Err(ScriptFault::Memory)
         };
@@ -137,59 +237,138 @@ where
     })
 }
 
-/// Serves the session over two clients of the hall: the editor, and the pusher.
+/// Serves the session over two clients of the hall: the editor, and the pusher. Both are closed when it
+/// returns, but where an allocation failed before the threads were started: then the end of the hall ends
+/// them.
 fn run_clients<F, R, I, W>(
     rt: &R,
     alloc: Global,
     floor: &F,
     input: I,
     output: W,
-    roots: Vec<Root>,
+    roots: Vec<String>,
+    lines: Lines,
+    ends: &Ends,
 ) -> Result<u8, ScriptFault>
 where
     F: Floor<R>,
-    R: Threads + Wait + Disk + AllocGlobal + Eprint + Sync,
+    R: Threads + Wait + Clock + Disk + AllocGlobal + Copy + Drop + Send + Sync + 'static,
     I: Read + Drop,
     W: Write + Copy + Send + Sync,
 {
     let output = Output::new(alloc, output);
     let rounds = Rounds::new();
-    run_threads(rt, alloc, floor, &rounds, &output, input, roots)
+    let files = Mutex::new(Files::new(alloc));
+    let Ok((editor, editor_ends)) = floor.join(rt) else {
+        return Err(ScriptFault::Memory);
+    };
+    let Ok((pushing, pushing_ends)) = floor.join(rt) else {
+        floor.close(rt, editor);
+        return Err(ScriptFault::Memory);
+    };
+    let (line, take) = Line::new(rt, floor, editor, editor_ends);
+    let (pushing_line, pushing_take) = Line::new(rt, floor, pushing, pushing_ends);
+    let (receipts, owed) = crossbeam_channel::bounded(alloc, RECEIPTS)?;
+    let (bell, bell_heard) = crossbeam_channel::bounded(alloc, 1)?;
+    let (calls, calls_heard) = crossbeam_channel::bounded(alloc, 2)?;
+    let ways = Ways {
+        receipts,
+        bell,
+        calls,
+    };
+    let heard = Heard {
+        take,
+        owed,
+        pushing_line,
+        pushing_take,
+        bell: bell_heard,
+        calls: calls_heard,
+        lines: lines.copy()?,
+    };
+    let desk = Desk::new(
+        rt, alloc, line, ways, &rounds, &output, &files, lines, roots,
+    )?;
+    let desk = Mutex::new(desk);
+    let clients = Clients { editor, pushing };
+    run_threads(
+        rt,
+        alloc,
+        floor,
+        clients,
+        &desk,
+        heard,
+        &rounds,
+        &output,
+        &files,
+        input,
+        ends,
+    )
 }
 
-/// Opens both clients, and runs the threads of the session. Returns when they have ended.
+/// The clients of a session.
+#[derive(Clone, Copy)]
+struct Clients {
+    editor: Client,
+    pushing: Client,
+}
+
+/// What the threads beside the reader get.
+#[derive(Drop)]
+struct Heard<'a, F: Floor<H>, H> {
+    /// For the writer.
+    take: F::Take,
+    owed: Receiver<F::Receipt>,
+    /// For the pusher.
+    pushing_line: Line<'a, F, H>,
+    pushing_take: F::Take,
+    bell: Receiver<()>,
+    /// For the looker.
+    calls: Receiver<Call>,
+    lines: Lines,
+}
+
+/// Runs the threads of the session. Returns when they have ended.
 fn run_threads<F, R, I, W>(
     rt: &R,
     alloc: Global,
     floor: &F,
+    clients: Clients,
+    desk: &Mutex<Desk<'_, F, R, W>>,
+    heard: Heard<'_, F, R>,
     rounds: &Rounds,
     output: &Output<W>,
+    files: &Mutex<Files>,
     input: I,
-    roots: Vec<Root>,
+    ends: &Ends,
 ) -> Result<u8, ScriptFault>
 where
     F: Floor<R>,
-    R: Threads + Wait + Disk + AllocGlobal + Eprint + Sync,
+    R: Threads + Wait + Clock + Disk + AllocGlobal + Copy + Drop + Send + Sync + 'static,
     I: Read + Drop,
     W: Write + Copy + Send + Sync,
 {
     thread::scope(thread::scope_env(), rt, move |scope| {
-        run_in(scope, rt, alloc, floor, rounds, output, input, roots)
+        run_in(
+            scope, rt, alloc, floor, clients, desk, heard, rounds, output, files, input, ends,
+        )
     })
 }
 
-/// Opens both clients, and runs the threads of the session: it reads on this thread, and writes replies
-/// and pushes on two others of `scope`. Both clients are closed when it returns, but where an allocation
-/// failed before the threads were started: then the end of the hall ends them.
-fn run_in<'s, E, F, R, I, W>(
+/// Runs the threads of the session: it reads on this thread. Replies, lists and looks at the disk have
+/// three others of `scope`.
+fn run_in<'s, 'b: 's, E, F, R, I, W>(
     scope: &Scope<'s, E>,
     rt: &'s R,
     alloc: Global,
     floor: &'s F,
+    clients: Clients,
+    desk: &'s Mutex<Desk<'b, F, R, W>>,
+    heard: Heard<'s, F, R>,
     rounds: &'s Rounds,
     output: &'s Output<W>,
+    files: &'s Mutex<Files>,
     input: I,
-    roots: Vec<Root>,
+    ends: &'s Ends,
 ) -> Result<u8, ScriptFault>
 where
     F: Floor<R>,
@@ -197,63 +376,89 @@ where
     F::Porter: 's,
     F::Take: 's,
     F::Receipt: 's,
-    R: Threads + Wait + Disk + AllocGlobal + Eprint + Sync,
+    R: Threads + Wait + Clock + Disk + AllocGlobal + Copy + Drop + Send + Sync + 'static,
     I: Read + Drop,
     W: Write + Copy + Send + Sync + 's,
 {
-    let Ok((editor, ends)) = floor.join(rt) else {
-        return Err(ScriptFault::Memory);
+    let Clients { editor, pushing } = clients;
+    let Heard {
+        take,
+        owed,
+        pushing_line,
+        pushing_take,
+        bell,
+        calls,
+        lines,
+    } = heard;
+    let writes = scope.spawn(move || {
+        let written = write_all_replies(rt, alloc, floor, editor, take, owed, files, output);
+        warned(rt, ends, written)
+    })
+    .ok();
+    let pushes = scope.spawn(move || {
+        let pushed = push_all(
+            rt,
+            alloc,
+            floor,
+            editor,
+            pushing_line,
+            pushing_take,
+            rounds,
+            output,
+            bell,
+        );
+        warned(rt, ends, pushed)
+    })
+    .ok();
+    let looks = scope.spawn(move || {
+        let looked = look_all(rt, alloc, desk, lines, calls);
+        warned(rt, ends, looked)
+    })
+    .ok();
+    let read = if writes.is_some() && pushes.is_some() && looks.is_some() {
+        read_all_messages(rt, desk, input)
+    } else {
+        Err(ScriptFault::Memory)
     };
-    let Ok((pushing, pushing_ends)) = floor.join(rt) else {
-        floor.close(rt, editor);
-        return Err(ScriptFault::Memory);
-    };
-    let (line, take) = Line::new(rt, floor, editor, ends);
-    let (receipts, owed) = crossbeam_channel::bounded(alloc, RECEIPTS)?;
-    let (bell, heard) = crossbeam_channel::bounded(alloc, 1)?;
-    let desk = Desk::new(rt, line, receipts, roots)?;
-    let writes = scope.spawn(move || write_all_replies(
-        rt, alloc, floor, editor, take, owed, output,
-    ));
-    let pushes = scope.spawn(move || push_all(
-        rt,
-        alloc,
-        floor,
-        editor,
-        pushing,
-        pushing_ends,
-        rounds,
-        output,
-        heard,
-    ));
-    match (writes, pushes) {
-        (Ok(writes), Ok(pushes)) => {
-            let read = read_all_messages(rt, desk, Pushes { rounds, bell }, input, output);
-            floor.close(rt, pushing);
-            let written = writes.join(rt);
-            let pushed = pushes.join(rt);
-            floor.close(rt, editor);
-            outcome_of(written, pushed, read)
-        }
-        _ => {
-            drop(desk);
-            drop(bell);
-            floor.close(rt, pushing);
-            floor.close(rt, editor);
-            Err(ScriptFault::Memory)
-        }
+    let _ = ends.try_send(rt, End::Soon(status_of(read)));
+    desk.lock(rt).end();
+    floor.close(rt, pushing);
+    let written = outcome_of(rt, writes);
+    floor.close(rt, editor);
+    let pushed = outcome_of(rt, pushes);
+    let looked = outcome_of(rt, looks);
+    written?;
+    pushed?;
+    looked?;
+    status_of(read)
+}
+
+/// What the thread of `handle` came to. It is `Memory` if it could not be started.
+fn outcome_of<R: Threads>(
+    rt: &R,
+    handle: Option<JoinHandle<Result<(), ScriptFault>>>,
+) -> Result<(), ScriptFault> {
+    match handle {
+        Some(handle) => handle.join(rt),
+        None => Err(ScriptFault::Memory),
     }
 }
 
-/// How a session ended: by the error of the writer or of the pusher, which end the reader too, or as
-/// the reader says. A session that another thread ended without an error was out of memory.
-fn outcome_of(
-    written: Result<(), ScriptFault>,
-    pushed: Result<(), ScriptFault>,
-    read: Result<Option<u8>, ScriptFault>,
-) -> Result<u8, ScriptFault> {
-    written?;
-    pushed?;
+/// What a thread came to: an error is said on `ends`, since the reader may wait for its input.
+fn warned<R: Wait>(
+    rt: &R,
+    ends: &Ends,
+    done: Result<(), ScriptFault>,
+) -> Result<(), ScriptFault> {
+    if let Err(fault) = done {
+        let _ = ends.try_send(rt, End::Soon(Err(fault)));
+    }
+    done
+}
+
+/// How a session ended whose reader came to `read`. A session that another thread ended without an error
+/// was out of memory.
+fn status_of(read: Result<Option<u8>, ScriptFault>) -> Result<u8, ScriptFault> {
     match read? {
         Some(status) => Ok(status),
         None => Err(ScriptFault::Memory),

@@ -1,6 +1,7 @@
 //! Why a folder or a file was not taken, with its line on standard error.
 use crate::library::fault::LibraryFault;
 use pq_inputs::{MAX_FILES, MAX_TEXT};
+use std::alloc::{AllocError, AllocFailed};
 use std::io;
 use std::io::ErrorKind;
 use thiserror::Error;
@@ -20,6 +21,18 @@ pub(crate) enum Failure {
     /// The text of the file has more than `MAX_TEXT` bytes.
     #[error("the text has more than {most} bytes", most = MAX_TEXT)]
     TextTooLong,
+    /// The file does not open: a pipe, or what hangs.
+    #[error("the file does not open")]
+    Hangs,
+    /// A change is of a document that is not open.
+    #[error("a document that is not open was changed")]
+    NotOpen,
+    /// A document has other text than the editor takes it to have.
+    #[error("the ranges of a change do not fit the text; the document is taken as closed")]
+    BadRanges,
+    /// Below the roots are more files than are watched.
+    #[error("there are more files than are watched")]
+    TooManyToWatch,
     /// Below the folder are more than `MAX_FILES` files.
     #[error("there are more than {most} files whose names end in .proto", most = MAX_FILES)]
     TooManyFiles,
@@ -29,6 +42,20 @@ impl From<io::Error> for Failure {
     /// The system's reason.
     fn from(error: io::Error) -> Failure {
         Failure::System(error)
+    }
+}
+
+impl From<AllocError> for Failure {
+    /// An allocation failure, as the system's.
+    fn from(error: AllocError) -> Failure {
+        Failure::System(io::Error::from(error))
+    }
+}
+
+impl<T: Drop> From<AllocFailed<T>> for Failure {
+    /// A value that was not stored for want of memory is dropped.
+    fn from(error: AllocFailed<T>) -> Failure {
+        Failure::from(AllocError::from(error))
     }
 }
 

@@ -74,7 +74,7 @@ fn there(asked: io::Result<Metadata>) -> io::Result<Option<Metadata>> {
 }
 
 /// Whether a file is at `path`, or a link leads to one from there.
-pub(crate) fn is_file<R: Files>(rt: &R, path: &str) -> io::Result<bool> {
+fn is_file<R: Files>(rt: &R, path: &str) -> io::Result<bool> {
     match there(fs::metadata(rt, path))? {
         Some(metadata) => Ok(metadata.is_file()),
         None => Ok(false),
@@ -82,7 +82,7 @@ pub(crate) fn is_file<R: Files>(rt: &R, path: &str) -> io::Result<bool> {
 }
 
 /// Whether a folder is at `path`, and not a link to one.
-fn is_folder<R: Files>(rt: &R, path: &str) -> io::Result<bool> {
+pub(crate) fn is_folder<R: Files>(rt: &R, path: &str) -> io::Result<bool> {
     match there(fs::symlink_metadata(rt, path))? {
         Some(metadata) => Ok(metadata.is_dir()),
         None => Ok(false),

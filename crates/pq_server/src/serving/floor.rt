@@ -77,8 +77,8 @@ impl From<AllocError> for NoText {
 
 /// Where the files of an editor's session are.
 pub(crate) trait Places {
-    /// The root below which the file `name` is. Without a name it is the first root.
-    fn root_of(&self, name: Option<&str>) -> Result<Root, Memory>;
+    /// The URI of the file `name`.
+    fn uri_of(&self, name: &str) -> Result<String, Memory>;
 }
 
 /// A rule set whose requests are those of sessions, and whose replies have texts.
@@ -96,10 +96,11 @@ pub(crate) trait Texts: Rules {
     /// The file of the definition that `reply` answers, if it answers one.
     fn file_of<M: Stamp>(reply: &Reply<Self::Key, Self::Value, M>) -> Option<&str>;
 
-    /// The text of `reply` for an editor, for a session with the root `root`.
+    /// The text of `reply` for an editor. `uri` is the URI of the file of its definition, if it answers
+    /// one.
     fn editor_text_of<M: Stamp>(
         alloc: Global,
-        root: &Root,
+        uri: &str,
         reply: &Reply<Self::Key, Self::Value, M>,
     ) -> Result<String, AllocError>;
 
@@ -129,10 +130,10 @@ impl<B: Braces> Texts for HallRules<B> {
 
     fn editor_text_of<M: Stamp>(
         alloc: Global,
-        root: &Root,
+        uri: &str,
         reply: &Reply<ProtoKey, ProtoValue, M>,
     ) -> Result<String, AllocError> {
-        editor_text(alloc, root, reply)
+        editor_text(alloc, uri, reply)
     }
 
     fn list_of<M: Stamp>(
@@ -247,9 +248,8 @@ pub(crate) trait Floor<H>: Posting<H, Post: Send, Receipt: Send> + Sync {
     /// the refused put, and its last put may be refused again: then the same holds of it.
     fn refill(&self, rt: &H, client: Client);
 
-    /// The text of the reply of `receipt` for an editor. The URI of a definition is below the root
-    /// that `places` has for its file. If an allocation fails for the text, it is the text that says
-    /// so.
+    /// The text of the reply of `receipt` for an editor. The URI of a definition is that of `places` for
+    /// its file. If an allocation fails for the text, it is the text that says so.
     fn editor_text<P: Places>(
         &self,
         rt: &H,
@@ -427,8 +427,11 @@ where
     ) -> Result<String, NoText> {
         let taken = self.take_one(rt, client, take, receipt)?;
         let reply = taken.reply();
-        let root = places.root_of(S::file_of(reply))?;
-        let text = S::editor_text_of(alloc, &root, reply);
+        let uri = match S::file_of(reply) {
+            Some(file) => places.uri_of(file)?,
+            None => String::new(alloc),
+        };
+        let text = S::editor_text_of(alloc, uri.as_str(), reply);
         Ok(text_or_refusal(alloc, text, &reply.request().label)?)
     }
 

@@ -24,6 +24,7 @@ use std::thread::{Scope, Threads};
 use std::time::Clock;
 
 /// A gate that holds nothing back.
+#[derive(Clone, Copy, Debug)]
 pub(crate) struct OpenGate;
 
 impl<S: Rules> Gate<S> for OpenGate {

@@ -2,19 +2,23 @@
 use crate::editor::desk::{Desk, Step};
 use crate::editor::disk::Disk;
 use crate::editor::line::Handed;
-use crate::editor::writer::OwedReply;
 use crate::library::joined;
 use crate::serving::floor::Floor;
 use pq_core::Request;
 use pq_mail::Post;
 use pq_proto::ProtoKey;
 use pq_session::{Memory, ScriptFault, asked_file, renamed};
-use std::sync::{Arc, Wait};
+use pq_view::Text;
+use std::io::Write;
+use std::sync::Wait;
+use std::thread::Threads;
+use std::time::Clock;
 
-impl<F, H> Desk<'_, F, H>
+impl<F, H, W> Desk<'_, F, H, W>
 where
     F: Floor<H>,
-    H: Wait + Disk + AllocGlobal + Eprint,
+    H: Threads + Wait + Clock + Disk + AllocGlobal + Copy + Drop + Send + Sync + 'static,
+    W: Write + Copy,
 {
     /// Hands in `request`, about the file that its path has below the roots.
     pub(super) fn ask(&mut self, request: Request<ProtoKey>) -> Result<Step, ScriptFault> {
@@ -27,35 +31,29 @@ where
     }
 
     /// The name of the file at the path `/` and `file`.
-    fn name_of(&self, file: &str) -> Result<String, Memory> {
-        let path = joined(self.alloc, "/", file)?;
-        if let Some(name) = self.documents.name_at(path.as_str()) {
-            return Ok(String::from_str(self.alloc, name)?);
-        }
-        let mut names = self.roots.names_of(self.rt, self.alloc, path.as_str())?;
-        if names.is_empty() {
-            return Ok(path);
-        }
-        Ok(names.swap_remove(0))
+    fn name_of(&self, file: &str) -> Result<Text, Memory> {
+        let face = joined(self.alloc, "/", file)?;
+        let path = self.path_of(face.as_str())?;
+        self.files.lock(self.rt).view.name_of(path.as_str())
     }
 
     /// Hands in `post`. The receipt of a request goes to the writer.
     pub(super) fn hand_in(&mut self, post: Post<ProtoKey>) -> Result<Step, ScriptFault> {
         match self.line.hand_in(post)? {
-            Handed::Asked(receipt) => self.owe(receipt),
+            Handed::Asked(receipt) => Ok(self.owe(receipt)),
             Handed::Closed => Ok(Step::Overtaken),
             _ => Ok(Step::GoesOn),
         }
     }
 
     /// Hands `receipt` to the writer.
-    fn owe(&self, receipt: F::Receipt) -> Result<Step, ScriptFault> {
-        let Ok(roots) = Arc::try_clone(&self.roots) else {
-            return Err(ScriptFault::Memory);
+    fn owe(&self, receipt: F::Receipt) -> Step {
+        let Some(ways) = &self.ways else {
+            return Step::Overtaken;
         };
-        match self.receipts.send(self.rt, OwedReply { receipt, roots }) {
-            Ok(()) => Ok(Step::GoesOn),
-            Err(_) => Ok(Step::Overtaken),
+        match ways.receipts.send(self.rt, receipt) {
+            Ok(()) => Step::GoesOn,
+            Err(_) => Step::Overtaken,
         }
     }
 }

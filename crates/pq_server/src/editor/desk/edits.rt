@@ -1,171 +1,286 @@
-//! Edits: of the open documents, and of files that the disk has again.
+//! What happens to documents and files: the view is told, and its edits are made.
 use crate::editor::desk::{Desk, Step, step_of};
-use crate::editor::disk::{Disk, text_of};
-use crate::editor::documents::{Document, gone_of};
+use crate::editor::disk::Disk;
+use crate::editor::documents::Document;
+use crate::editor::fetching::Fetched;
 use crate::editor::line::Handed;
-use crate::library::{Failure, joined, say};
+use crate::library::{Failure, joined};
 use crate::serving::floor::Floor;
-use pq_core::Change;
+use pq_core::{Body, Change};
 use pq_inputs::{Durability, MAX_FILES, MAX_TEXT};
 use pq_mail::Post;
-use pq_session::{Event, Memory, ScriptFault, change_to, text_after};
+use pq_session::{CutFault, Event, Memory, ScriptFault, change_to, text_after_cuts};
+use pq_view::{Edit, Text};
+use std::alloc::Global;
+use std::io::Write;
 use std::sync::Wait;
+use std::thread::Threads;
+use std::time::Clock;
 
-/// What an edit of a file came to.
-#[derive(Clone, Copy, Debug, PartialEq, Eq)]
-pub(super) enum Made {
-    /// It was made, or changes nothing.
-    Set,
-    /// There are too many files.
-    Refused,
-    /// The client was closed.
-    Closed,
-}
-
-impl Made {
-    /// Whether the session goes on.
-    pub(super) fn goes_on(self) -> bool {
-        self != Made::Closed
-    }
-}
-
-impl<F, H> Desk<'_, F, H>
+impl<F, H, W> Desk<'_, F, H, W>
 where
     F: Floor<H>,
-    H: Wait + Disk + AllocGlobal + Eprint,
+    H: Threads + Wait + Clock + Disk + AllocGlobal + Copy + Drop + Send + Sync + 'static,
+    W: Write + Copy,
 {
     /// Makes the edit `change` of the document of `event`.
     pub(super) fn edit(&mut self, event: Event, change: Change) -> Result<Step, ScriptFault> {
-        let path = joined(self.alloc, "/", change.file.as_str())?;
-        match event {
-            Event::Opens { uri, version } => {
-                let document = self.document_at(path, uri, version)?;
-                self.edit_document(document, change)
-            }
-            Event::Changes { uri, version } => {
-                let document = self.document_at(path, uri, version)?;
-                self.edit_document(document, change)
-            }
-            _ => self.remove(path.as_str()),
-        }
-    }
-
-    /// The document at `path`, taken out of the open ones, or a new one.
-    fn document_at(
-        &mut self,
-        path: String,
-        uri: String,
-        version: Option<i64>,
-    ) -> Result<Document, Memory> {
-        let mut document = match self.documents.take(path.as_str()) {
-            Some(document) => document,
-            None => {
-                let names = self.roots.names_of(self.rt, self.alloc, path.as_str())?;
-                self.documents.fresh(path, uri, names)
-            }
+        let face = joined(self.alloc, "/", change.file.as_str())?;
+        let goes_on = match event {
+            Event::Opens { uri, version } => self.open(face, uri, version, change.body)?,
+            Event::Changes { version, .. } => self.change(face.as_str(), version, change.body)?,
+            _ => self.remove(face.as_str())?,
         };
-        document.version = version;
-        Ok(document)
-    }
-
-    /// Makes the edit `change` of `document`, and puts it among the open ones.
-    fn edit_document(&mut self, document: Document, change: Change) -> Result<Step, ScriptFault> {
-        let mut document = document;
-        let before = match &document.text {
-            Some(text) => Some(text.as_str()),
-            None => None,
-        };
-        let text = text_after(self.alloc, before, change.body)?;
-        document.text = text;
-        let goes_on = self.send_text(&mut document)?;
-        self.documents.put(document)?;
         Ok(step_of(goes_on))
     }
 
-    /// Sets the files of `document` to its text. A text that is too long leaves a line, and its files
-    /// are absent. Returns whether the session goes on.
-    fn send_text(&mut self, document: &mut Document) -> Result<bool, ScriptFault> {
-        let was_kept = document.is_kept;
-        document.is_kept = has_room(document);
-        if !document.is_kept && was_kept {
-            say(self.rt, document.path.as_str(), &Failure::TextTooLong);
-        }
-        let mut goes_on = true;
-        for index in 0..document.names.len() {
-            goes_on = goes_on && self.send_name(document, index)?;
-        }
-        if !document.is_kept && was_kept {
-            self.forget(document)?;
-        }
-        Ok(goes_on)
-    }
-
-    /// Sets the file of the name `index` of `document` to its text. Returns whether the session goes
-    /// on.
-    fn send_name(&mut self, document: &mut Document, index: usize) -> Result<bool, ScriptFault> {
-        let Some(name) = document.names.get(index) else {
+    /// Opens the document that is written as `face`. Returns whether the session goes on.
+    fn open(
+        &mut self,
+        face: String,
+        uri: String,
+        version: Option<i64>,
+        body: Body,
+    ) -> Result<bool, ScriptFault> {
+        let Body::Set(Some(text)) = body else {
             return Ok(true);
         };
-        let text = match &document.text {
-            Some(text) if document.is_kept => Some(String::from_str(self.alloc, text.as_str())?),
-            _ => None,
+        let path = self.path_of(face.as_str())?;
+        self.call_looker();
+        let (before, number) = {
+            let mut files = self.files.lock(self.rt);
+            let before = files.documents.take(face.as_str());
+            (before, files.documents.next_number())
         };
-        let made = self.set_file(name.as_str(), text, Durability::Low)?;
-        if made == Made::Refused {
-            document.is_kept = false;
-        }
-        Ok(made.goes_on())
+        let was_open = before.is_some();
+        let number = match before {
+            Some(document) => document.number,
+            None => number,
+        };
+        self.has_renamed = true;
+        self.put(
+            Document {
+                number,
+                face,
+                path,
+                uri,
+                version,
+                name: Text::new(self.alloc, "")?,
+                text: Text::from_string(self.alloc, text)?,
+            },
+            !was_open,
+        )
     }
 
-    /// `document` shows no diagnostics any more.
-    fn forget(&mut self, document: &Document) -> Result<(), Memory> {
-        let gone = gone_of(self.alloc, document)?;
-        self.gone.push(gone)?;
+    /// Changes the document that is written as `face`. A document that is not open leaves a line. Returns
+    /// whether the session goes on.
+    fn change(
+        &mut self,
+        face: &str,
+        version: Option<i64>,
+        body: Body,
+    ) -> Result<bool, ScriptFault> {
+        let Some(document) = self.files.lock(self.rt).documents.take(face) else {
+            self.lines.say_failure(self.rt, face, &Failure::NotOpen);
+            return Ok(true);
+        };
+        let mut document = document;
+        let had_room = document.has_room();
+        match text_after_cuts(self.alloc, document.text.as_str(), body) {
+            Ok(text) => {
+                let text = match text {
+                    Some(text) => text,
+                    None => String::new(self.alloc),
+                };
+                document.text = Text::from_string(self.alloc, text)?;
+                document.version = version;
+                self.put(document, had_room)
+            }
+            Err(CutFault::TooMany) => {
+                self.lines.say_failure(self.rt, face, &Failure::BadRanges);
+                self.end_document(document)
+            }
+            Err(CutFault::Memory) => Err(ScriptFault::Memory),
+        }
+    }
+
+    /// Puts `document` among the open ones, which was changed now. A text that gets too long leaves a
+    /// line. Returns whether the session goes on.
+    fn put(&mut self, document: Document, had_room: bool) -> Result<bool, ScriptFault> {
+        if had_room && !document.has_room() {
+            self.lines
+                .say_failure(self.rt, document.face.as_str(), &Failure::TextTooLong);
+        }
         self.has_moved = true;
+        let edits = {
+            let mut files = self.files.lock(self.rt);
+            let path = document.path.copy()?;
+            let text = document.text.copy()?;
+            let edits = files.view.set_document(path, Some(text))?;
+            files.documents.put(document)?;
+            edits
+        };
+        self.post_all(edits, Durability::Low)
+    }
+
+    /// `document` is open no longer. Another document of its file has its text then. Returns whether the
+    /// session goes on.
+    fn end_document(&mut self, document: Document) -> Result<bool, ScriptFault> {
+        self.has_moved = true;
+        self.has_renamed = true;
+        let edits = {
+            let mut files = self.files.lock(self.rt);
+            let text = match files.documents.at(document.path.as_str()) {
+                Some(other) => Some(other.text.copy()?),
+                None => None,
+            };
+            files.view.set_document(document.path, text)?
+        };
+        self.post_disk(edits)
+    }
+
+    /// Removes the document that is written as `face`, and its file. Returns whether the session goes on.
+    fn remove(&mut self, face: &str) -> Result<bool, ScriptFault> {
+        let path = self.path_of(face)?;
+        let found = self.files.lock(self.rt).documents.take(face);
+        let goes_on = match found {
+            Some(document) => self.end_document(document)?,
+            None => true,
+        };
+        Ok(goes_on && self.set_on_disk(Fetched { path, text: None })?)
+    }
+
+    /// Does what a notification asks for that makes no edit of its own.
+    pub(super) fn notice(&mut self, event: Event) -> Result<Step, ScriptFault> {
+        let goes_on = match event {
+            Event::Ready => {
+                self.is_ready = true;
+                true
+            }
+            Event::Closes { uri } => self.close(uri.as_str())?,
+            Event::Saves { uri } => {
+                let mut paths = Vec::new(self.alloc);
+                self.push_path(&mut paths, uri.as_str())?;
+                self.read_again(paths)?
+            }
+            Event::Touches(uris) => {
+                let mut paths = Vec::new(self.alloc);
+                for uri in &uris {
+                    self.push_path(&mut paths, uri.as_str())?;
+                }
+                self.read_again(paths)?
+            }
+            _ => true,
+        };
+        Ok(step_of(goes_on))
+    }
+
+    /// Closes the document of `uri`: its file has the text on the disk again, or is absent. Returns
+    /// whether the session goes on.
+    fn close(&mut self, uri: &str) -> Result<bool, ScriptFault> {
+        let Some(face) = self.face_of(uri)? else {
+            return Ok(true);
+        };
+        let Some(document) = self.files.lock(self.rt).documents.take(face.as_str()) else {
+            return Ok(true);
+        };
+        let paths = one(self.alloc, &document.path)?;
+        let goes_on = self.read_again(paths)?;
+        Ok(goes_on && self.end_document(document)?)
+    }
+
+    /// The path of `uri`, as the editor writes it, if it names one.
+    fn face_of(&self, uri: &str) -> Result<Option<String>, Memory> {
+        let Some(root) = self.session.root() else {
+            return Ok(None);
+        };
+        match root.file_of(self.alloc, uri)? {
+            Some(file) => Ok(Some(joined(self.alloc, "/", file.as_str())?)),
+            None => Ok(None),
+        }
+    }
+
+    /// Adds the path of `uri` to `paths`, if it can be that of a file below a root.
+    fn push_path(&self, paths: &mut Vec<Text>, uri: &str) -> Result<(), Memory> {
+        if let Some(face) = self.face_of(uri)? {
+            if face.ends_with(".proto") {
+                paths.push(self.path_of(face.as_str())?)?;
+            }
+        }
         Ok(())
     }
 
-    /// Removes the document at `path`, and its files.
-    fn remove(&mut self, path: &str) -> Result<Step, ScriptFault> {
-        let names = match self.documents.take(path) {
-            Some(document) => {
-                self.forget(&document)?;
-                document.names
-            }
-            None => self.roots.names_of(self.rt, self.alloc, path)?,
-        };
-        for name in names {
-            let made = self.set_file(name.as_str(), None, Durability::Low)?;
-            if !made.goes_on() {
-                return Ok(Step::Overtaken);
-            }
+    /// The path of the file that the editor writes as `face`: that of its document, else with all links
+    /// to its folder followed.
+    pub(super) fn path_of(&self, face: &str) -> Result<Text, Memory> {
+        if let Some(document) = self.files.lock(self.rt).documents.find(face) {
+            return document.path.copy();
         }
-        Ok(Step::GoesOn)
+        let path = real_file(self.rt, self.alloc, face)?;
+        Text::from_string(self.alloc, path)
     }
 
-    /// Sets the file `name` to `text`, or removes it. A file too many leaves a line.
-    pub(super) fn set_file(
-        &mut self,
-        name: &str,
-        text: Option<String>,
-        durability: Durability,
-    ) -> Result<Made, ScriptFault> {
-        if !self.known.contains(name) {
-            if text.is_none() {
-                return Ok(Made::Set);
-            }
-            if !self.learn(name)? {
-                return Ok(Made::Refused);
+    /// Reads the files at `paths` again, and has the looker look. Returns whether the session goes on.
+    fn read_again(&mut self, paths: Vec<Text>) -> Result<bool, ScriptFault> {
+        self.call_looker();
+        if paths.is_empty() {
+            return Ok(true);
+        }
+        for it in self.fetcher.fetch(self.rt, paths)? {
+            if !self.set_on_disk(it)? {
+                return Ok(false);
             }
         }
-        let change = change_to(self.alloc, name, text, durability)?;
+        Ok(true)
+    }
+
+    /// The disk has the text of `fetched` at its path. Returns whether the session goes on.
+    pub(crate) fn set_on_disk(&mut self, fetched: Fetched) -> Result<bool, ScriptFault> {
+        let Fetched { path, text } = fetched;
+        let text = match text {
+            Some(text) => Some(Text::from_string(self.alloc, text)?),
+            None => None,
+        };
+        let edits = self.files.lock(self.rt).view.set_file(path, text)?;
+        self.post_disk(edits)
+    }
+
+    /// Makes `edits`, which follow from the disk or from roots. Returns whether the session goes on.
+    pub(super) fn post_disk(&mut self, edits: Vec<Edit>) -> Result<bool, ScriptFault> {
+        if !edits.is_empty() {
+            self.has_renamed = true;
+        }
+        self.post_all(edits, Durability::High)
+    }
+
+    /// Makes `edits`. Returns whether the session goes on.
+    fn post_all(&mut self, edits: Vec<Edit>, durability: Durability) -> Result<bool, ScriptFault> {
+        for edit in edits {
+            if !self.post_edit(edit, durability)? {
+                return Ok(false);
+            }
+        }
+        Ok(true)
+    }
+
+    /// Makes `edit`. A text that is too long, and a file too many, is absent. Returns whether the session
+    /// goes on.
+    fn post_edit(&mut self, edit: Edit, durability: Durability) -> Result<bool, ScriptFault> {
+        let Edit { name, text } = edit;
+        let text = kept(self.alloc, text)?;
+        if !self.known.contains(name.as_str()) {
+            if text.is_none() || !self.learn(name.as_str())? {
+                return Ok(true);
+            }
+        }
+        let change = change_to(self.alloc, name.as_str(), text, durability)?;
         match self.line.hand_in(Post::Edit(change))? {
             Handed::Edited(revision) => {
                 self.revision = revision;
                 self.has_moved = true;
-                Ok(Made::Set)
+                Ok(true)
             }
-            _ => Ok(Made::Closed),
+            _ => Ok(false),
         }
     }
 
@@ -181,92 +296,77 @@ where
         }
         if !self.has_said_too_many {
             self.has_said_too_many = true;
-            say(self.rt, name, &Failure::TooManyFiles);
+            self.lines
+                .say_failure(self.rt, name, &Failure::TooManyFiles);
         }
         Ok(false)
     }
+}
 
-    /// Does what a notification asks for that makes no edit of its own.
-    pub(super) fn notice(&mut self, event: Event) -> Result<Step, ScriptFault> {
-        match event {
-            Event::Ready => self.is_ready = true,
-            Event::Closes { uri } => {
-                let goes_on = self.close(uri.as_str())?;
-                return Ok(step_of(goes_on));
-            }
-            Event::Saves { uri } => {
-                let goes_on = self.read_again(uri.as_str())?;
-                return Ok(step_of(goes_on));
-            }
-            Event::Touches(uris) => {
-                for uri in uris {
-                    if !self.read_again(uri.as_str())? {
-                        return Ok(Step::Overtaken);
-                    }
-                }
-            }
-            _ => {}
+/// A list of `path` alone.
+fn one(alloc: Global, path: &Text) -> Result<Vec<Text>, Memory> {
+    let mut paths = Vec::new(alloc);
+    paths.push(path.copy()?)?;
+    Ok(paths)
+}
+
+/// `text`, if it is short enough for a file.
+fn kept(alloc: Global, text: Option<Text>) -> Result<Option<String>, Memory> {
+    match text {
+        Some(text) if text.as_str().len() <= MAX_TEXT => {
+            Ok(Some(String::from_str(alloc, text.as_str())?))
         }
-        Ok(Step::GoesOn)
-    }
-
-    /// The path of `uri`, if it names one.
-    fn path_of(&self, uri: &str) -> Result<Option<String>, Memory> {
-        let Some(root) = self.session.root() else {
-            return Ok(None);
-        };
-        match root.file_of(self.alloc, uri)? {
-            Some(file) => Ok(Some(joined(self.alloc, "/", file.as_str())?)),
-            None => Ok(None),
-        }
-    }
-
-    /// Closes the document of `uri`: its files have the texts on disk again, or are absent. Returns
-    /// whether the session goes on.
-    fn close(&mut self, uri: &str) -> Result<bool, ScriptFault> {
-        let Some(path) = self.path_of(uri)? else {
-            return Ok(true);
-        };
-        let Some(document) = self.documents.take(path.as_str()) else {
-            return Ok(true);
-        };
-        self.forget(&document)?;
-        self.read_names(document.names)
-    }
-
-    /// Reads the file of `uri` again, unless it is open. Returns whether the session goes on.
-    fn read_again(&mut self, uri: &str) -> Result<bool, ScriptFault> {
-        let Some(path) = self.path_of(uri)? else {
-            return Ok(true);
-        };
-        if !path.ends_with(".proto") || self.documents.has_path(path.as_str()) {
-            return Ok(true);
-        }
-        let names = self.roots.names_below(self.alloc, path.as_str())?;
-        self.read_names(names)
-    }
-
-    /// Sets the files of `names` that no open document has to their texts on disk. Returns whether the
-    /// session goes on.
-    fn read_names(&mut self, names: Vec<String>) -> Result<bool, ScriptFault> {
-        for name in names {
-            if self.documents.has_name(name.as_str()) {
-                continue;
-            }
-            let text = text_of(self.rt, self.alloc, &self.roots, name.as_str())?;
-            let made = self.set_file(name.as_str(), text, Durability::High)?;
-            if !made.goes_on() {
-                return Ok(false);
-            }
-        }
-        Ok(true)
+        _ => Ok(None),
     }
 }
 
-/// Whether the text of `document` is short enough for a file.
-fn has_room(document: &Document) -> bool {
-    match &document.text {
-        Some(text) => text.len() <= MAX_TEXT,
-        None => true,
+/// The path of the file `path`, with all links to its folder followed. Folders that are not there are
+/// taken as they are written, without `.`, `..` and doubled slashes.
+fn real_file<D: Disk>(disk: &D, alloc: Global, path: &str) -> Result<String, Memory> {
+    let (folder, name) = match path.rsplit_once('/') {
+        Some(parts) => parts,
+        None => ("", path),
+    };
+    let folder = real_folder(disk, alloc, folder)?;
+    let path = joined(alloc, folder.as_str(), "/")?;
+    joined(alloc, path.as_str(), name)
+}
+
+/// The folder `path`, with all links followed as far as it is there.
+fn real_folder<D: Disk>(disk: &D, alloc: Global, path: &str) -> Result<String, Memory> {
+    let mut rest = path;
+    let mut missing: Vec<&str> = Vec::new(alloc);
+    for _ in 0..path.len() {
+        if let Some(found) = disk.real_path(rest) {
+            return with_parts(alloc, found.trim_end_matches('/'), &missing);
+        }
+        match rest.rsplit_once('/') {
+            Some((before, last)) => {
+                missing.push(last)?;
+                rest = before;
+            }
+            None => break,
+        }
     }
+    with_parts(alloc, "", &missing)
+}
+
+/// The path of `folder` and then the parts of `missing`, the last first.
+fn with_parts(alloc: Global, folder: &str, missing: &[&str]) -> Result<String, Memory> {
+    let mut path = String::from_str(alloc, folder)?;
+    for part in missing.iter().rev() {
+        match *part {
+            "" | "." => {}
+            ".." => {
+                if let Some(end) = path.rfind('/') {
+                    path.truncate(end);
+                }
+            }
+            part => {
+                path.push('/')?;
+                path.push_str(part)?;
+            }
+        }
+    }
+    Ok(path)
 }
