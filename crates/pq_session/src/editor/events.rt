@@ -16,6 +16,8 @@ use std::alloc::{AllocError, Global};
 pub enum Event {
     /// The request `initialize` (LSP 3.17, "Initialize Request").
     Greets(Greeting),
+    /// The request `shutdown` (LSP 3.17, "Shutdown Request").
+    ShutsDown,
     /// The notification `initialized` (LSP 3.17, "Initialized Notification").
     Ready,
     /// A document is open from now on (LSP 3.17, "DidOpenTextDocument Notification").
@@ -58,6 +60,9 @@ pub fn event_of(alloc: Global, message: &Message) -> Result<Event, AllocError> {
             if method.as_str() == INITIALIZE {
                 return Ok(Event::Greets(greeting_in(alloc, params.as_ref())?));
             }
+            if method.as_str() == SHUTDOWN {
+                return Ok(Event::ShutsDown);
+            }
             Ok(Event::Other)
         }
         Message::Notice { method, params } => told(alloc, method.as_str(), params.as_ref()),
@@ -91,6 +96,9 @@ pub fn without_root(message: Message) -> Message {
 
 /// The method of the first request of a client.
 const INITIALIZE: &str = "initialize";
+
+/// The method of the last request of a client.
+const SHUTDOWN: &str = "shutdown";
 
 /// What the notification of this method tells.
 fn told(alloc: Global, method: &str, params: Option<&Value>) -> Result<Event, AllocError> {

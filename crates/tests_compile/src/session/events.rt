@@ -47,6 +47,7 @@ fn add_touched(page: &mut Page, uris: &[String]) {
 fn add_event(page: &mut Page, event: &Event) {
     match event {
         Event::Greets(greeting) => add_greeting(page, greeting),
+        Event::ShutsDown => page.add("ShutsDown"),
         Event::Ready => page.add("Ready"),
         Event::Opens { uri, version } => add_document(page, "Opens", uri.as_str(), *version),
         Event::Changes { uri, version } => add_document(page, "Changes", uri.as_str(), *version),
@@ -94,14 +95,15 @@ const EVENTS: &str = r#"{"id":0,"jsonrpc":"2.0","method":"initialize"} => Greets
 {"jsonrpc":"2.0","method":"$/cancelRequest","params":{"id":1}} => Other
 {"jsonrpc":"2.0","method":"initialize","params":{"textDocument":{"uri":"file:///a.proto"}}} => Other
 {"id":1,"jsonrpc":"2.0","method":"textDocument/didOpen","params":{"textDocument":{"uri":"file:///a.proto"}}} => Other
-{"id":1,"jsonrpc":"2.0","method":"shutdown"} => Other
+{"id":1,"jsonrpc":"2.0","method":"shutdown"} => ShutsDown
+{"jsonrpc":"2.0","method":"shutdown"} => Other
 {"id":"pq_server:watch","jsonrpc":"2.0","result":null} => Other
 {} => Other
 hi => Other"#;
 
 #[test]
 fn what_messages_tell(rt: HostRuntime) {
-    check_table(&rt, 27, EVENTS, show_event);
+    check_table(&rt, 28, EVENTS, show_event);
 }
 
 /// Writes the root of a session that has read `body` without its root.
