@@ -13,6 +13,7 @@ use Rattle.pq_proto.specs.Lists.{list_data}
 use Rattle.pq_proto.specs.aux.Printed.{tokens_of, values_of}
 use Rattle.pq_rules.specs.declared.turn.Answer.TheVariants.{Value, Cycle}
 use Rattle.pq_proto.specs.declared.key.ProtoKey.{ProtoKey}
+use Rattle.pq_proto.specs.declared.value.Location.{Location}
 use Rattle.pq_proto.specs.declared.value.ProtoValue.{ProtoValue}
 use Rattle.pq_proto.specs.declared.value.ProtoValue.TheVariants as values
 use Rattle.pq_core.specs.declared.values.request.Want.{Want}
@@ -21,8 +22,9 @@ use Rattle.pq_core.specs.declared.values.outcome.Outcome.TheVariants.{Answered, 
 use Rattle.pq_core.specs.Replies.{ReplyView}
 use Rattle.pq_session.specs.Labels.{label_model}
 use Rattle.pq_session.specs.Replies.{value_text, outcome_text, reply_text}
-use Rattle.pq_session.specs.Reply.{reply_data, diagnostic_data, diagnostics_text}
-use Rattle.pq_session.specs.Editor.{has_unread, is_shown, shown_data, shown_items, shown_list, shown_text, value_diagnostics, outcome_value, answered_diagnostics, shown_or_text, editor_reply_text, published_text, published_data}
+use Rattle.pq_session.specs.Reply.{reply_data, diagnostic_data, diagnostics_text, location_text, definition_text}
+use Rattle.pq_session.specs.Uri.{uri_of}
+use Rattle.pq_session.specs.Editor.{has_unread, is_shown, shown_data, shown_items, shown_list, shown_text, value_diagnostics, value_location, outcome_value, answered_diagnostics, answered_location, shown_or_text, editor_reply_text, published_text, published_data}
 use Rattle.pq_session.specs.aux.Shown.{shown_tokens}
 
 -- ---- what is printed
@@ -85,13 +87,102 @@ by_outcome root label want revision (Cancelled started seen) d e = absurd (cc e)
 by_outcome root label want revision Starved d e = absurd (cc e)
 by_outcome root label want revision Withdrawn d e = absurd (cc e)
 
-pub plain_reply : {M : Type 0} (root : List ℕ) (reply : ReplyView ProtoKey ProtoValue M) (d : Diagnosed) → answered_diagnostics reply ≡ Some d → has_unread d.diagnostics ≡ false → editor_reply_text root reply ≡ reply_text root reply
-plain_reply root reply d answers read =
+pub plain_reply : {M : Type 0} (uri root : List ℕ) (reply : ReplyView ProtoKey ProtoValue M) (d : Diagnosed) → answered_diagnostics reply ≡ Some d → has_unread d.diagnostics ≡ false → editor_reply_text uri reply ≡ reply_text root reply
+plain_reply uri root reply d answers read =
     let label = label_model reply.request.label in
-    ap (λ (answered : Option Diagnosed). shown_or_text root reply answered) answers
+    ap (λ (answered : Option Diagnosed). shown_or_text uri reply answered (answered_location reply)) answers
     ∙ ap (λ (unread : Bool). shown_text label unread d reply.revision) read
     ∙ plain_text label d reply.revision
     ∙ sym (by_outcome root label reply.request.want reply.revision reply.outcome d answers)
+
+-- ---- locations
+
+none_shown : (value : ProtoValue) (l : Location) → value_location value ≡ Some l → value_diagnostics value ≡ None
+none_shown (values.Definition d) l e = refl
+none_shown (values.Diagnostics x) l e = absurd (cc e)
+none_shown (values.Source t) l e = refl
+none_shown (values.Parse f) l e = refl
+none_shown (values.Items i) l e = refl
+none_shown (values.Imports i) l e = refl
+none_shown (values.Linked x) l e = refl
+none_shown (values.Defs x) l e = refl
+none_shown (values.Scope s) l e = refl
+none_shown (values.Resolved r) l e = refl
+none_shown (values.Checks f) l e = refl
+none_shown (values.Descriptor t) l e = refl
+none_shown (values.Symbols t) l e = refl
+
+value_located : (root : List ℕ) (label : LabelModel) (revision : ℕ) (value : ProtoValue) (l : Location) → value_location value ≡ Some l → value_text root label revision value ≡ location_text label root l
+value_located root label revision (values.Definition d) l e = ap (definition_text label root) e
+value_located root label revision (values.Diagnostics x) l e = absurd (cc e)
+value_located root label revision (values.Source t) l e = absurd (cc e)
+value_located root label revision (values.Parse f) l e = absurd (cc e)
+value_located root label revision (values.Items i) l e = absurd (cc e)
+value_located root label revision (values.Imports i) l e = absurd (cc e)
+value_located root label revision (values.Linked x) l e = absurd (cc e)
+value_located root label revision (values.Defs x) l e = absurd (cc e)
+value_located root label revision (values.Scope s) l e = absurd (cc e)
+value_located root label revision (values.Resolved r) l e = absurd (cc e)
+value_located root label revision (values.Checks f) l e = absurd (cc e)
+value_located root label revision (values.Descriptor t) l e = absurd (cc e)
+value_located root label revision (values.Symbols t) l e = absurd (cc e)
+
+outcome_unshown : {M : Type 0} (outcome : Outcome ProtoKey ProtoValue M) (l : Location) → option_and_then value_location (outcome_value outcome) ≡ Some l → option_and_then value_diagnostics (outcome_value outcome) ≡ None
+outcome_unshown (Answered (Value value) stamp) l e = none_shown value l e
+outcome_unshown (Answered (Cycle ring) stamp) l e = refl
+outcome_unshown Plain l e = refl
+outcome_unshown (Cancelled started seen) l e = refl
+outcome_unshown Starved l e = refl
+outcome_unshown Withdrawn l e = refl
+
+outcome_located : {M : Type 0} (root : List ℕ) (label : LabelModel) (want : Want ProtoKey) (revision : ℕ) (outcome : Outcome ProtoKey ProtoValue M) (l : Location) → option_and_then value_location (outcome_value outcome) ≡ Some l → outcome_text root label want revision outcome ≡ location_text label root l
+outcome_located root label want revision (Answered (Value value) stamp) l e = value_located root label revision value l e
+outcome_located root label want revision (Answered (Cycle ring) stamp) l e = absurd (cc e)
+outcome_located root label want revision Plain l e = absurd (cc e)
+outcome_located root label want revision (Cancelled started seen) l e = absurd (cc e)
+outcome_located root label want revision Starved l e = absurd (cc e)
+outcome_located root label want revision Withdrawn l e = absurd (cc e)
+
+-- with the URI below a root, a definition is that of a session with the root
+pub located_reply : {M : Type 0} (root : List ℕ) (reply : ReplyView ProtoKey ProtoValue M) (l : Location) → answered_location reply ≡ Some l → editor_reply_text (uri_of root l.file) reply ≡ reply_text root reply
+located_reply root reply l answers =
+    let label = label_model reply.request.label in
+    let uri = uri_of root l.file in
+    ap (λ (answered : Option Diagnosed). shown_or_text uri reply answered (answered_location reply)) (outcome_unshown reply.outcome l answers)
+    ∙ ap (λ (place : Option Location). shown_or_text uri reply None place) answers
+    ∙ sym (outcome_located root label reply.request.want reply.revision reply.outcome l answers)
+
+-- the text of any other value has no URI
+value_rootless : (first root : List ℕ) (label : LabelModel) (revision : ℕ) (value : ProtoValue) → value_location value ≡ None → value_text first label revision value ≡ value_text root label revision value
+value_rootless first root label revision (values.Definition None) e = refl
+value_rootless first root label revision (values.Definition (Some l)) e = absurd (cc e)
+value_rootless first root label revision (values.Diagnostics x) e = refl
+value_rootless first root label revision (values.Source t) e = refl
+value_rootless first root label revision (values.Parse f) e = refl
+value_rootless first root label revision (values.Items i) e = refl
+value_rootless first root label revision (values.Imports i) e = refl
+value_rootless first root label revision (values.Linked x) e = refl
+value_rootless first root label revision (values.Defs x) e = refl
+value_rootless first root label revision (values.Scope s) e = refl
+value_rootless first root label revision (values.Resolved r) e = refl
+value_rootless first root label revision (values.Checks f) e = refl
+value_rootless first root label revision (values.Descriptor t) e = refl
+value_rootless first root label revision (values.Symbols t) e = refl
+
+outcome_rootless : {M : Type 0} (first root : List ℕ) (label : LabelModel) (want : Want ProtoKey) (revision : ℕ) (outcome : Outcome ProtoKey ProtoValue M) → option_and_then value_location (outcome_value outcome) ≡ None → outcome_text first label want revision outcome ≡ outcome_text root label want revision outcome
+outcome_rootless first root label want revision (Answered (Value value) stamp) e = value_rootless first root label revision value e
+outcome_rootless first root label want revision (Answered (Cycle ring) stamp) e = refl
+outcome_rootless first root label want revision Plain e = refl
+outcome_rootless first root label want revision (Cancelled started seen) e = refl
+outcome_rootless first root label want revision Starved e = refl
+outcome_rootless first root label want revision Withdrawn e = refl
+
+pub other_reply : {M : Type 0} (uri root : List ℕ) (reply : ReplyView ProtoKey ProtoValue M) → answered_diagnostics reply ≡ None → answered_location reply ≡ None → editor_reply_text uri reply ≡ reply_text root reply
+other_reply uri root reply no_list no_place =
+    let label = label_model reply.request.label in
+    ap (λ (answered : Option Diagnosed). shown_or_text uri reply answered (answered_location reply)) no_list
+    ∙ ap (λ (place : Option Location). shown_or_text uri reply None place) no_place
+    ∙ outcome_rootless [] root label reply.request.want reply.revision reply.outcome no_place
 
 -- ---- notifications
 

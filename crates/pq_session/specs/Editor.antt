@@ -1,9 +1,11 @@
 -- What one editor is shown (LSP 3.17, "Diagnostic", "PublishDiagnosticsParams"): the diagnostics of
 -- a file with their severities, the lists that are sent without being asked for, and the texts that
 -- edits make.
-use Rattle.std.specs.Prelude.{ℕ, ℤ, Bool, true, false, not, ◌&&◌, nat_le, List, ◌++◌, filter, map, codes, decimal, if◌then◌else◌, Option, Some, None, option_and_then, option_map}
+use Rattle.std.specs.Prelude.{ℕ, ℤ, Bool, true, false, not, ◌&&◌, nat_le, List, [], ◌++◌, filter, map, codes, decimal, if◌then◌else◌, Option, Some, None, option_and_then, option_map}
 use Rattle.std.specs.Fmt.{signed_decimal}
 use Rattle.std.specs.List.{list_any}
+use Rattle.std.specs.Option.{option_eq}
+use Rattle.std.specs.Ordering.{int_eq}
 use Rattle.std.specs.Str.{bytes_eq}
 use Rattle.serde_json.specs.Data.{Data, Members, number, string, object, unsigned, member, no_members}
 use Rattle.serde_json.specs.Find.{of_integer}
@@ -33,7 +35,7 @@ use Rattle.pq_core.specs.declared.values.outcome.Outcome.{Outcome}
 use Rattle.pq_core.specs.declared.values.outcome.Outcome.TheVariants.{Answered, Plain, Cancelled, Starved, Withdrawn}
 use Rattle.pq_core.specs.Replies.{ReplyView}
 use Rattle.pq_session.specs.Labels.{label_model}
-use Rattle.pq_session.specs.Reply.{reply_data}
+use Rattle.pq_session.specs.Reply.{reply_data, located_text}
 use Rattle.pq_session.specs.Replies.{reply_text}
 
 -- ---- the severities
@@ -110,6 +112,11 @@ abbrev pub value_file : ProtoValue → Option (List ℕ)
 value_file (values.Definition d) = option_map (λ (l : Location). l.file) d
 value_file _ = None
 
+-- `value_location value` is the location of the definition that `value` is, if it is one.
+abbrev pub value_location : ProtoValue → Option Location
+value_location (values.Definition d) = d
+value_location _ = None
+
 -- `answer_value answer` is the value of `answer`, if it is not a cycle.
 abbrev pub answer_value : Answer ProtoKey ProtoValue → Option ProtoValue
 answer_value (Value value) = Some value
@@ -132,6 +139,11 @@ answered_diagnostics reply = option_and_then value_diagnostics (outcome_value re
 abbrev pub definition_file : {M : Type 0} → ReplyView ProtoKey ProtoValue M → Option (List ℕ)
 definition_file reply = option_and_then value_file (outcome_value reply.outcome)
 
+-- `answered_location reply` is the location of the definition that `reply` answers, if it answers
+-- one.
+abbrev pub answered_location : {M : Type 0} → ReplyView ProtoKey ProtoValue M → Option Location
+answered_location reply = option_and_then value_location (outcome_value reply.outcome)
+
 -- `ListView` is a list of diagnostics that is shown: the revision at which it holds, and its text.
 pub record ListView : Type 0 where
   pub revision : ℕ
@@ -141,15 +153,19 @@ pub record ListView : Type 0 where
 abbrev pub list_of : {M : Type 0} → ReplyView ProtoKey ProtoValue M → Option ListView
 list_of reply = option_map (λ d. record { revision = reply.revision; text = shown_list d }) (answered_diagnostics reply)
 
--- `shown_or_text root reply answered` is the text of `reply`, where `answered` is the diagnostics
--- that it answers: they are shown, and any other reply has its text.
-abbrev pub shown_or_text : {M : Type 0} → List ℕ → ReplyView ProtoKey ProtoValue M → Option Diagnosed → List ℕ
-shown_or_text root reply None = reply_text root reply
-shown_or_text root reply (Some d) = shown_text (label_model reply.request.label) (has_unread d.diagnostics) d reply.revision
+-- `shown_or_text uri reply answered place` is the text of `reply`, where `answered` is the diagnostics
+-- and `place` the location that it answers: diagnostics are shown, and a location is in the file of
+-- `uri`. The text of any other reply has no URI, so it is the same for each root (the law
+-- `located_as_it_is`), and that of the empty root is taken.
+abbrev pub shown_or_text : {M : Type 0} → List ℕ → ReplyView ProtoKey ProtoValue M → Option Diagnosed → Option Location → List ℕ
+shown_or_text uri reply (Some d) place = shown_text (label_model reply.request.label) (has_unread d.diagnostics) d reply.revision
+shown_or_text uri reply None (Some l) = located_text (label_model reply.request.label) uri l
+shown_or_text uri reply None None = reply_text [] reply
 
--- `editor_reply_text root reply` is the text of `reply` for an editor with the root `root`.
+-- `editor_reply_text uri reply` is the text of `reply` for an editor, where `uri` is the URI of the
+-- file of the definition that it answers, as the editor is to see it.
 abbrev pub editor_reply_text : {M : Type 0} → List ℕ → ReplyView ProtoKey ProtoValue M → List ℕ
-editor_reply_text root reply = shown_or_text root reply (answered_diagnostics reply)
+editor_reply_text uri reply = shown_or_text uri reply (answered_diagnostics reply) (answered_location reply)
 
 -- ---- lists that are sent
 
@@ -181,28 +197,32 @@ published_data uri version d =
     no_members)))
 
 -- `LastView` is what was sent for a document: the revision of the last list that was taken, and the
--- text that was sent last, if one was.
+-- version and the text that were sent last, if a list was. The version is that of the document (LSP
+-- 3.17, "PublishDiagnosticsParams").
 pub record LastView : Type 0 where
   pub revision : ℕ
+  pub version : Option ℤ
   pub text : Option (List ℕ)
 
--- `is_last last text` is whether `text` is the text that was sent last.
-abbrev pub is_last : Option (List ℕ) → List ℕ → Bool
-is_last None text = false
-is_last (Some sent) text = bytes_eq sent text
+-- `is_last last text version` is whether a list was sent, and `text` and `version` are those that were
+-- sent last.
+abbrev pub is_last : LastView → List ℕ → Option ℤ → Bool
+is_last last text version = elim last.text [ None ↦ false | Some sent ↦ bytes_eq sent text && option_eq int_eq last.version version ]
 
 -- `is_current last list` is whether `list` is of no older revision than the last one that was taken.
 abbrev pub is_current : LastView → ListView → Bool
 is_current last list = nat_le last.revision list.revision
 
--- `is_news last list` is whether `list` is to be sent: it is not older than the last one that was
--- taken, and its text is not the one that was sent last.
-abbrev pub is_news : LastView → ListView → Bool
-is_news last list = is_current last list && not (is_last last.text list.text)
+-- `is_news last list version` is whether `list`, for the document at `version`, is to be sent: it is
+-- not older than the last one that was taken, and its text or the version is not the one that was
+-- sent last.
+abbrev pub is_news : LastView → ListView → Option ℤ → Bool
+is_news last list version = is_current last list && not (is_last last list.text version)
 
--- `after last list` is what was sent after `list` came: an older list changes nothing.
-abbrev pub after : LastView → ListView → LastView
-after last list = if is_current last list then record { revision = list.revision; text = Some list.text } else last
+-- `after last list version` is what was sent after `list` came, for the document at `version`: an
+-- older list changes nothing.
+abbrev pub after : LastView → ListView → Option ℤ → LastView
+after last list version = if is_current last list then record { revision = list.revision; version = version; text = Some list.text } else last
 
 -- ---- requests
 

@@ -135,15 +135,21 @@ diagnostics_text label d revision = compact_text (reply_data (label_data label) 
 abbrev pub as_position : Place → Position
 as_position place = record { line = place.line; character = place.character }
 
--- `location_data root l` is the location `l` with the URI that its file has below `root` (LSP 3.17,
+-- `located_data uri start end` is the location from `start` to `end` in the file of `uri` (LSP 3.17,
 -- "Location").
-abbrev pub location_data : List ℕ → Location → Data
-location_data root l =
-    object (member (codes "range") (range_data (as_position l.start) (as_position l.end)) (member (codes "uri") (string (uri_of root l.file)) no_members))
+abbrev pub located_data : List ℕ → Position → Position → Data
+located_data uri start end =
+    object (member (codes "range") (range_data start end) (member (codes "uri") (string uri) no_members))
 
--- `location_text label root l` is the text of the response of the location `l`.
-unfoldable pub location_text : LabelModel → List ℕ → Location → List ℕ
-location_text label root l = compact_text (reply_data (label_data label) (location_data root l))
+-- `located_text label uri l` is the text of the response of the range of the location `l`, in the
+-- file of `uri`.
+unfoldable pub located_text : LabelModel → List ℕ → Location → List ℕ
+located_text label uri l = compact_text (reply_data (label_data label) (located_data uri (as_position l.start) (as_position l.end)))
+
+-- `location_text label root l` is the text of the response of the location `l`, with the URI that
+-- its file has below `root`.
+abbrev pub location_text : LabelModel → List ℕ → Location → List ℕ
+location_text label root l = located_text label (uri_of root l.file) l
 
 -- `definition_text label root d` is the text of the response of the definition `d`, and of the
 -- result `null` if there is none (LSP 3.17, "Goto Definition Request").

@@ -7,9 +7,11 @@
 //! Reading the URI that was printed of a file gives its name back (`uris_come_back`).
 //!
 //! A diagnostic that an editor is shown is as it is but for its severity (`shown_but_severity`), and
-//! where each import is read, all are shown with theirs (`list_as_it_is`, `reply_as_it_is`). A list that was printed before
-//! gives the notification that would be printed with its data (`published_spliced`).
-ghost use Rattle.std.specs.Prelude.{◌≡◌, ◌↔◌, Bool, true, false, List, ℕ, ℤ, map, Option, Some, IsUtf8};
+//! where each import is read, all are shown with theirs (`list_as_it_is`, `reply_as_it_is`). Any
+//! other reply is that of a session with a root, where the URI of a definition is that below the root
+//! (`located_as_it_is`). A list that was printed before gives the notification that would be printed
+//! with its data (`published_spliced`).
+ghost use Rattle.std.specs.Prelude.{◌≡◌, ◌↔◌, Bool, true, false, List, ℕ, ℤ, map, Option, Some, None, IsUtf8};
 ghost use Rattle.serde_json.specs.Data.{Data};
 ghost use Rattle.serde_json.specs.Written.{compact_text};
 ghost use Rattle.pq_frame.specs.Labels.{LabelModel, label_data};
@@ -20,8 +22,9 @@ ghost use Rattle.pq_checks.specs.declared.errors.diagnostic.Diagnosed.{Diagnosed
 ghost use Rattle.pq_core.specs.Replies.{ReplyView};
 ghost use Rattle.pq_proto.specs.Lists.{list_data};
 ghost use Rattle.pq_proto.specs.declared.key.ProtoKey.{ProtoKey};
+ghost use Rattle.pq_proto.specs.declared.value.Location.{Location};
 ghost use Rattle.pq_proto.specs.declared.value.ProtoValue.{ProtoValue};
-ghost use Rattle.pq_session.specs.Editor.{has_unread, shown_severity, item_data, shown_data, shown_list, answered_diagnostics, editor_reply_text, published_text, published_data};
+ghost use Rattle.pq_session.specs.Editor.{has_unread, shown_severity, item_data, shown_data, shown_list, answered_diagnostics, answered_location, editor_reply_text, published_text, published_data};
 ghost use Rattle.pq_session.specs.Replies.{reply_text};
 ghost use Rattle.pq_session.specs.Reply.{diagnostic_data, reply_data, symbols_text, descriptor_data, descriptor_text};
 ghost use Rattle.pq_frame.specs.Frames.{Frames, State};
@@ -100,9 +103,24 @@ pub fn list_as_it_is()
 /// Where each import of a file is read, an editor gets the reply that any other client gets.
 pub fn reply_as_it_is<M>()
     // Where each import is read, the reply has each diagnostic as it is.
-    ensures { (root : List ℕ) (reply : ReplyView ProtoKey ProtoValue M) (d : Diagnosed) →
+    ensures { (uri root : List ℕ) (reply : ReplyView ProtoKey ProtoValue M) (d : Diagnosed) →
         answered_diagnostics reply ≡ Some d → has_unread d.diagnostics ≡ false →
-        editor_reply_text root reply ≡ reply_text root reply }
+        editor_reply_text uri reply ≡ reply_text root reply }
+{}
+
+/// An editor that is given the URI below a root gets the definition that any other client with that
+/// root gets. A reply without diagnostics and without a location has no URI: it is the same for each
+/// root.
+pub fn located_as_it_is<M>()
+    // `located`, `other`: Where the URI is that below a root, the reply of a definition is that of a
+    // session with this root; a reply of no diagnostics and no location has the same text for each
+    // URI and each root.
+    ensures located { (root : List ℕ) (reply : ReplyView ProtoKey ProtoValue M) (l : Location) →
+        answered_location reply ≡ Some l →
+        editor_reply_text (uri_of root l.file) reply ≡ reply_text root reply }
+    ensures other { (uri root : List ℕ) (reply : ReplyView ProtoKey ProtoValue M) →
+        answered_diagnostics reply ≡ None → answered_location reply ≡ None →
+        editor_reply_text uri reply ≡ reply_text root reply }
 {}
 
 /// Where a text is the compact text of data, the notification that has the text as its list is the

@@ -32,8 +32,8 @@ pub use editor::published::{WATCH_FILES, empty_list, published_text};
 pub use editor::shown::{definition_file, editor_text};
 pub use fault::ScriptFault;
 pub use laws::{
-    descriptor_spliced, each_output, list_as_it_is, published_spliced, reply_as_it_is,
-    shown_but_severity, stops_at_a_front, symbols_spliced, uris_come_back,
+    descriptor_spliced, each_output, list_as_it_is, located_as_it_is, published_spliced,
+    reply_as_it_is, shown_but_severity, stops_at_a_front, symbols_spliced, uris_come_back,
 };
 pub use protocol::answers::reply_text;
 pub use protocol::replies::out_of_memory_text;

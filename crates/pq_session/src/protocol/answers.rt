@@ -2,7 +2,7 @@
 ghost use Rattle.std.specs.Prelude.{◌≡◌, IfOk, string_bytes};
 ghost use Rattle.pq_session.specs.Labels.{label_model};
 ghost use Rattle.pq_session.specs.Editor.{shown_text};
-ghost use Rattle.pq_session.specs.Reply.{location_text as text_of_location};
+ghost use Rattle.pq_session.specs.Reply.{located_text as text_of_located, location_text as text_of_location};
 ghost use Rattle.pq_session.specs.Replies.{value_text as text_of_value, answer_text as text_of_answer, reply_text as text_of_reply};
 
 use crate::protocol::locations::print_location;
@@ -41,7 +41,26 @@ pub(crate) fn diagnostics_text(
     Ok(out.into_string())
 }
 
-/// The response of a definition at `location`.
+/// The response of a definition at the range of `location`, in the file of `uri`.
+pub(crate) fn located_text(
+    alloc: Global,
+    uri: &str,
+    label: &Label,
+    location: &Location,
+) -> Result<String, AllocError>
+    ensures { IfOk result (λ s. string_bytes s
+        ≡ text_of_located (label_model label.now) uri.now location.now) }
+{
+    let start = location.start.position();
+    let end = location.end.position();
+    let mut out = Printer::new(alloc);
+    print_start(&mut out, label)?;
+    print_location(&mut out, uri, start, end)?;
+    out.end_object()?;
+    Ok(out.into_string())
+}
+
+/// The response of a definition at `location`, with the URI that its file has below `root`.
 fn location_text(
     alloc: Global,
     root: &Root,
@@ -51,11 +70,8 @@ fn location_text(
     ensures { IfOk result (λ s. string_bytes s
         ≡ text_of_location (label_model label.now) root.now location.now) }
 {
-    let mut out = Printer::new(alloc);
-    print_start(&mut out, label)?;
-    print_location(alloc, &mut out, root, location)?;
-    out.end_object()?;
-    Ok(out.into_string())
+    let uri = root.uri_of(alloc, location.file.as_str())?;
+    located_text(alloc, uri.as_str(), label, location)
 }
 
 /// The response of `value`, which a key has at `revision`. A value that no request asks for gives

@@ -1,26 +1,25 @@
 //! Locations (LSP 3.17, "Location"), printed token by token.
 ghost use Rattle.std.specs.Prelude.{◌≡◌, ◌++◌, OnOk};
 ghost use Rattle.pq_proto.specs.aux.Printed.{tokens_of};
-ghost use Rattle.pq_session.specs.Reply.{location_data};
+ghost use Rattle.pq_session.specs.Reply.{located_data};
 
-use crate::protocol::root::Root;
-use pq_proto::{Location, Printer, print_range};
-use std::alloc::{AllocError, Global};
+use pq_lex::Position;
+use pq_proto::{Printer, print_range};
+use std::alloc::AllocError;
 
-/// Prints a location, with the URI of its file below `root`.
+/// Prints the location from `start` to `end` in the file of `uri`.
 pub(crate) fn print_location(
-    alloc: Global,
     out: &mut Printer,
-    root: &Root,
-    location: &Location,
+    uri: &str,
+    start: Position,
+    end: Position,
 ) -> Result<(), AllocError>
-    ensures { OnOk result (out.new ≡ out.old ++ tokens_of (location_data root.now location.now)) }
+    ensures { OnOk result (out.new ≡ out.old ++ tokens_of (located_data uri.now start end)) }
 {
-    let uri = root.uri_of(alloc, location.file.as_str())?;
     out.begin_object()?;
     out.key("range")?;
-    print_range(out, location.start.position(), location.end.position())?;
-    out.text_member("uri", uri.as_str())?;
+    print_range(out, start, end)?;
+    out.text_member("uri", uri)?;
     out.end_object()?;
     Ok(())
 }

@@ -9,8 +9,8 @@ use pq_names::Text;
 use pq_proto::{Place, ProtoKey, ProtoValue, compile};
 use pq_rules::Shared;
 use pq_session::{
-    LastSent, Root, ScriptFault, asked_file, change_to, definition_file, diagnostic_list,
-    diagnostics_of, editor_text, empty_list, published_text, renamed, text_after,
+    LastSent, ScriptFault, asked_file, change_to, definition_file, diagnostic_list, diagnostics_of,
+    editor_text, empty_list, published_text, renamed, text_after,
 };
 use std::process::Abort;
 use test_support::changes_of;
@@ -79,10 +79,9 @@ fn errors_after_an_unread_import_are_information(rt: HostRuntime) {
     check_list(&rt, &inputs, "c", empty_list());
 }
 
-/// The text of `reply` that an editor is shown.
+/// The text of `reply` that an editor is shown, with the URI `file:///p/"b`.
 fn check_reply(rt: &(impl Abort + AllocGlobal), reply: &BareReply, want: &str) {
-    let root = Root::at(rt.alloc(), "/p").expect(rt, "memory");
-    let found = editor_text(rt.alloc(), &root, reply).expect(rt, "memory");
+    let found = editor_text(rt.alloc(), "file:///p/\"b", reply).expect(rt, "memory");
     check_text(rt, found.as_str(), want, want);
 }
 
@@ -122,15 +121,20 @@ fn the_file_of_a_definition(rt: HostRuntime) {
     check_reply(
         &rt,
         &reply,
-        r#"{"id":null,"jsonrpc":"2.0","result":{"range":{"end":{"character":9,"line":1},"start":{"character":8,"line":1}},"uri":"file:///p/b"}}"#,
+        r#"{"id":null,"jsonrpc":"2.0","result":{"range":{"end":{"character":9,"line":1},"start":{"character":8,"line":1}},"uri":"file:///p/\"b"}}"#,
     );
 }
 
-/// Gives the list of `a` to `last`: whether it is sent.
-fn is_sent(rt: &(impl Abort + AllocGlobal), last: &mut LastSent, inputs: &Inputs) -> bool {
+/// Gives the list of `a` at this version to `last`: whether it is sent.
+fn is_sent(
+    rt: &(impl Abort + AllocGlobal),
+    last: &mut LastSent,
+    inputs: &Inputs,
+    version: Option<i64>,
+) -> bool {
     let reply = reply_of(rt, inputs, "a");
     let list = diagnostic_list(rt.alloc(), &reply).expect(rt, "memory");
-    last.replace(list.expect(rt, "a list"))
+    last.replace(list.expect(rt, "a list"), version)
 }
 
 #[test]
@@ -143,11 +147,26 @@ fn lists_are_sent_where_they_differ(rt: HostRuntime) {
     );
     let mut last = LastSent::new();
     check_text(&rt, last.text(), "", "before the first");
-    check_that(&rt, is_sent(&rt, &mut last, &empty), "the first");
-    check_that(&rt, !is_sent(&rt, &mut last, &good), "the same");
+    check_that(&rt, is_sent(&rt, &mut last, &empty, None), "the first");
+    check_that(&rt, !is_sent(&rt, &mut last, &good, None), "the same");
+    check_that(&rt, is_sent(&rt, &mut last, &good, Some(1)), "a version");
     check_text(&rt, last.text(), empty_list(), "no diagnostics");
-    check_that(&rt, is_sent(&rt, &mut last, &bad), "another");
-    check_that(&rt, !is_sent(&rt, &mut last, &good), "an older one");
+    check_that(&rt, is_sent(&rt, &mut last, &bad, Some(1)), "another");
+    check_that(
+        &rt,
+        !is_sent(&rt, &mut last, &good, Some(2)),
+        "an older one",
+    );
+    check_that(
+        &rt,
+        !is_sent(&rt, &mut last, &bad, Some(1)),
+        "the version before",
+    );
+    check_that(
+        &rt,
+        is_sent(&rt, &mut last, &bad, Some(2)),
+        "the next version",
+    );
     check_that(&rt, last.text() != empty_list(), "the later one");
 }
 

@@ -1,19 +1,14 @@
-use Rattle.std.proofs.Common.{◌≡◌, ℕ, List, [], ◌∷◌, ◌++◌, ap, ap₂, ◌∙◌}
+use Rattle.std.proofs.Common.{◌≡◌, List, [], ◌∷◌, ◌++◌}
 use Rattle.std.specs.Prelude.{codes}
 use Rattle.json.specs.Token.{Token, begin_object, end_object, key, string}
-use Rattle.pq_lex.specs.declared.position.Position.{Position}
 use Rattle.pq_proto.specs.Ranges.{range_data}
 use Rattle.pq_proto.specs.aux.Printed.{tokens_of}
 use Rattle.pq_proto.proofs.ListSteps.{link}
-use Rattle.pq_proto.specs.declared.value.Location.{Location}
-use Rattle.pq_session.specs.Reply.{as_position}
-use Rattle.pq_session.specs.Uri.{uri_of}
 use Rattle.pq_session.proofs.protocol.locations.print_location.Goals as goal
 
 pub returns : goal.returns
 returns c =
     let o0 : List Token = c.args.out.now in
-    let l : Location = c.args.location.now in
     let o1 : List Token = c.begin_object.new.self in
     let o2 : List Token = c.key.new.self in
     let o3 : List Token = c.print_range.new.out in
@@ -21,8 +16,8 @@ returns c =
     let o5 : List Token = c.end_object.new.self in
     let x1 : List Token = begin_object ∷ [] in
     let x2 : List Token = key (codes "range") ∷ [] in
-    let x3 : List Token = tokens_of (range_data (as_position l.start) (as_position l.end)) in
-    let x4 : List Token = key (codes "uri") ∷ string (uri_of c.args.root.now l.file) ∷ [] in
+    let x3 : List Token = tokens_of (range_data c.args.start c.args.end) in
+    let x4 : List Token = key (codes "uri") ∷ string c.args.uri.now ∷ [] in
     let x5 : List Token = end_object ∷ [] in
     let r5 : List Token = x5 in
     let r4 : List Token = x4 ++ r5 in
@@ -31,8 +26,8 @@ returns c =
     let r1 : List Token = x1 ++ r2 in
     let s1 : o1 ≡ o0 ++ x1 = c.in_ok-begin_object.ensures in
     let s2 : o2 ≡ o1 ++ x2 = c.in_ok-key.ensures in
-    let s3 : o3 ≡ o2 ++ x3 = c.in_ok-print_range.ensures ∙ ap₂ (λ (p q : Position). o2 ++ tokens_of (range_data p q)) c.position.ensures c.position-2.ensures in
-    let s4 : o4 ≡ o3 ++ x4 = c.in_ok-text_member.ensures ∙ ap (λ (t : List ℕ). o3 ++ (key (codes "uri") ∷ string t ∷ [])) (c.as_str-2.ensures.value ∙ c.in_ok-uri.ensures ∙ ap (uri_of c.args.root.now) c.as_str.ensures.same) in
+    let s3 : o3 ≡ o2 ++ x3 = c.in_ok-print_range.ensures in
+    let s4 : o4 ≡ o3 ++ x4 = c.in_ok-text_member.ensures in
     let s5 : o5 ≡ o4 ++ x5 = c.in_ok-end_object.ensures in
     let e5 : o5 ≡ o4 ++ r5 = s5 in
     let e4 : o5 ≡ o3 ++ r4 = link o3 o4 o5 x4 r5 s4 e5 in
