@@ -5,6 +5,7 @@ pub mod RootLemmas
 pub mod ReplyLemmas
 pub mod PrintLemmas
 pub mod EditorLemmas
+pub mod CutLemmas
 pub mod Known
 pub mod Total
 pub mod OutputLemmas

@@ -6,6 +6,7 @@ pub mod Items
 pub mod Reply
 pub mod Replies
 pub mod Editor
+pub mod Cuts
 pub mod Responses
 pub mod Output
 pub mod Script

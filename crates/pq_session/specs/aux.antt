@@ -6,3 +6,4 @@ pub mod Answered
 pub mod Steps
 pub mod Starts
 pub mod Shown
+pub mod Cutting

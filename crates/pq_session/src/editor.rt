@@ -3,9 +3,10 @@
 //!
 //! `lists` prints the list of the diagnostics of a reply, and `last_sent` says whether it is news.
 //! `published` has the messages that the server sends of itself. `shown` prints replies as an editor
-//! is shown them. `edits` makes texts, changes and requests, and `events` says what a message tells
-//! beside what it asks for.
+//! is shown them. `edits` makes texts, changes and requests, and `cuts` makes texts of changes whose
+//! ranges end past the text. `events` says what a message tells beside what it asks for.
 
+pub(crate) mod cuts;
 pub(crate) mod edits;
 pub(crate) mod events;
 pub(crate) mod last_sent;

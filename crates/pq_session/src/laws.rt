@@ -9,7 +9,7 @@
 //! A diagnostic that an editor is shown is as it is but for its severity (`shown_but_severity`), and
 //! where each import is read, all are shown with theirs (`list_as_it_is`, `reply_as_it_is`). Any
 //! other reply is that of a session with a root, where the URI of a definition is that below the root
-//! (`located_as_it_is`). A list that was printed before gives the notification that would be printed
+//! (`located_as_it_is`). Changes that fit a text are not cut (`fitting_uncut`). A list that was printed before gives the notification that would be printed
 //! with its data (`published_spliced`).
 ghost use Rattle.std.specs.Prelude.{◌≡◌, ◌↔◌, Bool, true, false, List, ℕ, ℤ, map, Option, Some, None, IsUtf8};
 ghost use Rattle.serde_json.specs.Data.{Data};
@@ -20,10 +20,12 @@ ghost use Rattle.pq_checks.specs.Codes.{severity, severity_number};
 ghost use Rattle.pq_checks.specs.declared.errors.diagnostic.Diagnostic.{Diagnostic};
 ghost use Rattle.pq_checks.specs.declared.errors.diagnostic.Diagnosed.{Diagnosed};
 ghost use Rattle.pq_core.specs.Replies.{ReplyView};
+ghost use Rattle.pq_lex.specs.TextChanges.{TextChangeView, apply};
 ghost use Rattle.pq_proto.specs.Lists.{list_data};
 ghost use Rattle.pq_proto.specs.declared.key.ProtoKey.{ProtoKey};
 ghost use Rattle.pq_proto.specs.declared.value.Location.{Location};
 ghost use Rattle.pq_proto.specs.declared.value.ProtoValue.{ProtoValue};
+ghost use Rattle.pq_session.specs.Cuts.{after_cuts};
 ghost use Rattle.pq_session.specs.Editor.{has_unread, shown_severity, item_data, shown_data, shown_list, answered_diagnostics, answered_location, editor_reply_text, published_text, published_data};
 ghost use Rattle.pq_session.specs.Replies.{reply_text};
 ghost use Rattle.pq_session.specs.Reply.{diagnostic_data, reply_data, symbols_text, descriptor_data, descriptor_text};
@@ -121,6 +123,13 @@ pub fn located_as_it_is<M>()
     ensures other { (uri root : List ℕ) (reply : ReplyView ProtoKey ProtoValue M) →
         answered_diagnostics reply ≡ None → answered_location reply ≡ None →
         editor_reply_text uri reply ≡ reply_text root reply }
+{}
+
+/// Changes that all fit a text leave the same, whether their ranges are cut or not.
+pub fn fitting_uncut()
+    // Changes that all fit a text leave the text that they leave if no range is cut.
+    ensures { (text after : List ℕ) (changes : List TextChangeView) →
+        apply (Some text) changes ≡ Some after → after_cuts text changes ≡ after }
 {}
 
 /// Where a text is the compact text of data, the notification that has the text as its list is the

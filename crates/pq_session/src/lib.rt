@@ -9,8 +9,9 @@
 //!
 //! `specs/Script` and `specs/Output` say which bytes are written for which input, `specs/Session`
 //! with `specs/Items` what a message means, `specs/Uri` which file a URI names, `specs/Responses`
-//! what the response to a message may be, and `specs/Replies` with `specs/Reply` its text. What the
-//! files say is `Compiles` of `pq_proto`. `laws` has the theorems about all of them.
+//! what the response to a message may be, and `specs/Replies` with `specs/Reply` its text.
+//! `specs/Editor` says what an editor is shown, and `specs/Cuts` which text its changes leave. What
+//! the files say is `Compiles` of `pq_proto`. `laws` has the theorems about all of them.
 #![tactic(auto)]
 
 mod bodies;
@@ -24,6 +25,7 @@ mod send;
 mod state;
 
 pub use counted::Counted;
+pub use editor::cuts::{CutFault, text_after_cuts};
 pub use editor::edits::{asked_file, change_to, diagnostics_of, renamed, text_after};
 pub use editor::events::{Event, Greeting, event_of, without_root};
 pub use editor::last_sent::LastSent;
@@ -32,8 +34,9 @@ pub use editor::published::{WATCH_FILES, empty_list, published_text};
 pub use editor::shown::{definition_file, editor_text};
 pub use fault::ScriptFault;
 pub use laws::{
-    descriptor_spliced, each_output, list_as_it_is, located_as_it_is, published_spliced,
-    reply_as_it_is, shown_but_severity, stops_at_a_front, symbols_spliced, uris_come_back,
+    descriptor_spliced, each_output, fitting_uncut, list_as_it_is, located_as_it_is,
+    published_spliced, reply_as_it_is, shown_but_severity, stops_at_a_front, symbols_spliced,
+    uris_come_back,
 };
 pub use protocol::answers::reply_text;
 pub use protocol::replies::out_of_memory_text;

@@ -1,7 +1,7 @@
 //! What an editor is shown: lists of diagnostics, replies, and notifications.
 //!
 //! Where an import is not read, P104 is not shown, and the severity of P150 is 3.
-use crate::checks::{check_text, check_that};
+use crate::checks::{check_table, check_text, check_that};
 use crate::sets::inputs_of;
 use pq_core::{Body, ClientId, Number, Outcome, Reply, Request, Want};
 use pq_inputs::{Durability, Inputs};
@@ -9,11 +9,12 @@ use pq_names::Text;
 use pq_proto::{Place, ProtoKey, ProtoValue, compile};
 use pq_rules::Shared;
 use pq_session::{
-    LastSent, ScriptFault, asked_file, change_to, definition_file, diagnostic_list, diagnostics_of,
-    editor_text, empty_list, published_text, renamed, text_after,
+    CutFault, LastSent, ScriptFault, asked_file, change_to, definition_file, diagnostic_list,
+    diagnostics_of, editor_text, empty_list, published_text, renamed, text_after, text_after_cuts,
 };
+use std::alloc::Global;
 use std::process::Abort;
-use test_support::changes_of;
+use test_support::{Page, changes_of, text_of_word};
 
 /// A reply without a stamp.
 type BareReply = Reply<ProtoKey, ProtoValue, ()>;
@@ -234,4 +235,50 @@ fn texts_after_edits(rt: HostRuntime) {
     check_that(&rt, after == Err(ScriptFault::BadRange), "no text");
     let change = change_to(rt.alloc(), "a", None, Durability::High).expect(&rt, "memory");
     check_text(&rt, change.file.as_str(), "a", "the file of a change");
+}
+
+/// The text after changes of a text, `TEXT | CHANGE | ..`, whose ranges are cut.
+fn cut_in(alloc: Global, row: &str) -> Result<Option<String>, CutFault> {
+    let (text, changes) = row.split_once(" | ").unwrap_or((row, ""));
+    let text = text_of_word(alloc, text)?;
+    let changes = changes_of(alloc, changes)?;
+    text_after_cuts(alloc, text.as_str(), Body::Ranged(changes))
+}
+
+/// Writes a text, with `\n` for each LF.
+fn add_lines(page: &mut Page, text: &str) {
+    match text.replace(page.alloc, "\n", "\\n") {
+        Ok(text) => page.add(text.as_str()),
+        Err(_) => page.cut(),
+    }
+}
+
+/// Writes the text after changes of a text, whose ranges are cut.
+fn show_cut(page: &mut Page, row: &str) {
+    match cut_in(page.alloc, row) {
+        Ok(Some(text)) => add_lines(page, text.as_str()),
+        Ok(None) => page.add("no file"),
+        Err(CutFault::TooMany) => page.add("too many"),
+        Err(CutFault::Memory) => page.cut(),
+    }
+}
+
+const CUTS: &str = r#"ab\ncd\n | 0:0-3:0 x => x
+ab\ncd | 1:1-9:0 x => ab\ncx
+ab\ncd\n | 9:5-9:9 x => ab\ncd\nx
+ab\ncd | 1:1-0:1 x => ab\ncxd
+ab\ncd | 9:0-0:0 x => ab\ncdx
+abc | 0:2-0:1 x | 0:3-7:0 yz => abxyz
+ab | 0:1-9:0 '' | all cde | 0:1-9:0 x => cx
+aé\r\nb | 0:2-1:0 x | 0:0-1:0 y => y
+ab | 0:0-0:1 x => xb
+ab | 64 of 9:0-9:0 '' => ab
+ab | 65 of 9:0-9:0 '' => too many
+ab | 65 of 0:0-0:1 x => xb"#;
+
+#[test]
+fn ranges_past_the_end(rt: HostRuntime) {
+    check_table(&rt, 12, CUTS, show_cut);
+    let kept = text_after_cuts(rt.alloc(), "ab", Body::Set(None));
+    check_that(&rt, kept == Ok(None), "a file that is removed");
 }
