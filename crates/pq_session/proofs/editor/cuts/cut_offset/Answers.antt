@@ -1,5 +1,4 @@
 use Rattle.std.proofs.Common.{Some, None}
-use Rattle.pq_lex.specs.Lines.{IsOffset}
 use Rattle.pq_lex.proofs.LineSearch.{cut_at}
 use Rattle.pq_session.proofs.CutLemmas.{cut_known}
 use Rattle.pq_session.proofs.editor.cuts.cut_offset.Goals as goal
