@@ -6,8 +6,6 @@ use Rattle.std.specs.List.{list_any}
 use Rattle.std.proofs.lemmas.Bool.{cond-true, cond-false, false_from_ne_true}
 use Rattle.std.proofs.lemmas.List.{take_more}
 use Rattle.std.proofs.lemmas.List.Elements.{filter_map-append}
-use Rattle.std.proofs.lemmas.Map.Made.{is_some-lookup}
-use Rattle.std.proofs.lemmas.Map.Text.{is_eq-slice_cmp}
 use Rattle.pq_view.specs.Views.{View, below, is_path, name_below, place_in, place, placed_text, own_text, is_found, or_else, source}
 use Rattle.pq_view.specs.Edits.{AreEdits, with_roots}
 use Rattle.pq_view.specs.aux.Known.{IsKnown, known_by, known_names}
@@ -15,7 +13,8 @@ use Rattle.pq_view.specs.aux.Touched.{edited}
 use Rattle.pq_view.specs.declared.edits.Edit.{Edit}
 use Rattle.pq_view.proofs.BelowRoots.{named}
 use Rattle.pq_view.proofs.Editing.{are_edits}
-use Rattle.pq_view.proofs.ListTests.{or_false, false_or, bytes_same, bytes_is, append_false, list_any-map, both_false, any_weaker, option_any, list_any-cons_option}
+use Rattle.pq_view.proofs.MapPaths.{any_alike, at_path}
+use Rattle.pq_view.proofs.ListTests.{or_false, false_or, bytes_same, bytes_is, append_false, both_false, any_weaker, option_any, list_any-cons_option}
 use Rattle.pq_view.proofs.TouchedNames.{listed}
 
 -- one root more
@@ -32,11 +31,6 @@ names_more path seen root roots old names more i h so s d e =
     ∙ ap (λ (xs : List (List ℕ)). old ++ (ns ++ xs)) (listed (name_below path r))
     ∙ ap (λ (xs : List (List ℕ)). old ++ xs) (sym (filter_map-append (name_below path) (take i roots) (r ∷ [])))
     ∙ ap (λ (xs : List (List ℕ)). old ++ filter_map (name_below path) xs) (sym (take_more roots i root h))
-
--- tests that are alike
-any_alike : {X : Type 0} (p q : X → Bool) → ((x : X) → p x ≡ q x) → (xs : List X) → list_any p xs ≡ list_any q xs
-any_alike p q same [] = refl
-any_alike p q same (x ∷ xs) = ap (λ t. t || list_any p xs) (same x) ∙ ap (λ t. q x || t) (any_alike p q same xs)
 
 -- an option that is absent
 absent : (o : Option (List ℕ)) → is_some o ≡ false → o ≡ None
@@ -130,10 +124,7 @@ settled_or_known v roots disk documents k name = by_test (list_any (bytes_eq nam
 
 -- a map has no texts but at its paths
 pub at_keys : {Y : Type 0} (m : BTreeMap (String Y) (List ℕ)) (q : List ℕ) → list_any (bytes_eq q) (map string_bytes (keys m)) ≡ false → get_by_text m q ≡ None
-at_keys m q h =
-    absent (get_by_text m q)
-    (is_some-lookup _ m.entries ∙ any_alike _ (λ k. bytes_eq q (string_bytes k)) (λ k. is_eq-slice_cmp q (string_bytes k)) (keys m)
-    ∙ sym (list_any-map (bytes_eq q) string_bytes (keys m)) ∙ h)
+at_keys m q h = absent (get_by_text m q) (at_path m q ∙ h)
 
 -- the edits of the roots
 pub roots_done : (v b a : View) (roots new names disk documents : List (List ℕ)) (es : List Edit) → IsKnown v disk documents → b ≡ v → a ≡ with_roots new v → roots ≡ v.roots

@@ -7,3 +7,5 @@ pub mod Editing
 pub mod Changes
 pub mod KnownNames
 pub mod LeadingBack
+pub mod MapPaths
+pub mod Owing

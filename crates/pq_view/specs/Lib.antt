@@ -1,4 +1,5 @@
 pub mod Views
 pub mod Held
 pub mod Edits
+pub mod Owed
 pub mod aux

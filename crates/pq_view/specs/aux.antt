@@ -3,3 +3,4 @@ pub mod Rests
 pub mod Sights
 pub mod Touched
 pub mod Known
+pub mod Owing

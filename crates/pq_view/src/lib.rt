@@ -10,15 +10,18 @@
 //! look-ups of log N comparisons, a change at one path at most R^4, and no walk over all files. New
 //! roots take a walk.
 //!
+//! `View::owed` says which lists of diagnostics are owed to the editor: one to each open document.
+//!
 //! Modules: `names` (names below roots), `sight` (the questions, also of a view after a change),
 //! `touched` and `known` (the names that a change can touch), `edits` (the edits of names), `view`,
-//! `laws`.
+//! `owed`, `laws`.
 #![tactic(auto)]
 
 mod edits;
 mod known;
 mod laws;
 mod names;
+mod owed;
 mod sight;
 #[cfg(test)]
 mod tests;
@@ -27,5 +30,6 @@ mod view;
 
 pub use edits::Edit;
 pub use laws::names_lead_back;
+pub use owed::Owed;
 pub use pq_names::{Memory, Text};
 pub use view::View;

@@ -2,7 +2,7 @@
 //!
 //! A row is `WORD REST => WANT`. `roots`, `file`, `gone`, `open` and `close` change the view, and
 //! write an edit as `NAME=TEXT`, or `NAME-` for a file that becomes absent. `source`, `text`, `name`,
-//! `path` and `is_open` ask it.
+//! `path`, `is_open` and `owed` ask it; what is owed is `PATH=NAME`.
 use crate::edits::Edit;
 use crate::view::View;
 use pq_names::{Memory, Text};
@@ -29,9 +29,11 @@ open /b/x 1 => /b/x=1
 gone /a/x => x=1 /b/x-
 is_open /b/x => yes
 is_open /a/x => no
+owed => /b/x=x
 file /a/x 5 => x=5 /b/x=1
 open /a/x 5 =>
 open /a/x 6 => x=6
+owed => /a/x=x /b/x=/b/x
 text /a/x => 6
 close /a/x => x=5
 open /c/z 7 => /c/z=7
@@ -75,6 +77,20 @@ fn line_of(alloc: Global, edits: &[Edit]) -> Result<String, Memory> {
     Ok(line)
 }
 
+/// What is owed, in one line.
+fn owed_line(alloc: Global, view: &View) -> Result<String, Memory> {
+    let mut line = String::new(alloc);
+    for owed in &view.owed()? {
+        if !line.is_empty() {
+            line.push_str(" ")?;
+        }
+        line.push_str(owed.path.as_str())?;
+        line.push_str("=")?;
+        line.push_str(owed.name.as_str())?;
+    }
+    Ok(line)
+}
+
 /// Gives the view the roots `rest`.
 fn set_roots(alloc: Global, view: &mut View, rest: &str) -> Result<String, Memory> {
     let mut roots = Vec::new(alloc);
@@ -106,6 +122,7 @@ fn answer(alloc: Global, view: &View, word: &str, rest: &str) -> Result<String, 
         "source" => shown(alloc, view.source(rest)?),
         "text" => shown(alloc, view.text_at(rest)),
         "name" => shown(alloc, Some(&view.name_of(rest)?)),
+        "owed" => owed_line(alloc, view),
         "path" => shown(alloc, Some(&view.path_of(rest)?)),
         _ => String::from_str(alloc, if view.is_open(rest) { "yes" } else { "no" }),
     }

@@ -19,10 +19,10 @@ use std::collections::BTreeMap;
 /// Contracts see it by `view_of`, as its roots and as two functions from paths to texts.
 #[derive(Drop)]
 pub struct View {
-    alloc: Global,
+    pub(crate) alloc: Global,
     roots: Vec<Text>,
     disk: BTreeMap<String, Text>,
-    documents: BTreeMap<String, Text>,
+    pub(crate) documents: BTreeMap<String, Text>,
 }
 
 /// The file at `path` has `text` from now on, or is absent. After `Memory` all is as it was.

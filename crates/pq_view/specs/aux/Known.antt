@@ -5,9 +5,9 @@ use Rattle.std.specs.List.{list_any}
 use Rattle.std.specs.declared.string.String.{String}
 use Rattle.pq_view.specs.Views.{View, name_below}
 
--- `paths_of texts` is the paths of a map of texts
-abbrev pub paths_of : {Y : Type 0} → BTreeMap (String Y) (List ℕ) → List (List ℕ)
-paths_of texts = map string_bytes (keys texts)
+-- `paths_of m` is the paths of the map `m`
+abbrev pub paths_of : {X Y : Type 0} → BTreeMap (String Y) X → List (List ℕ)
+paths_of m = map string_bytes (keys m)
 
 -- `known_by old new path` is `path` and its names below the roots `old` and `new`
 abbrev pub known_by : List (List ℕ) → List (List ℕ) → List ℕ → List (List ℕ)
