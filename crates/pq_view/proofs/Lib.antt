@@ -9,3 +9,4 @@ pub mod KnownNames
 pub mod LeadingBack
 pub mod MapPaths
 pub mod Owing
+pub mod News

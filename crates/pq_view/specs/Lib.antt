@@ -2,4 +2,5 @@ pub mod Views
 pub mod Held
 pub mod Edits
 pub mod Owed
+pub mod Looks
 pub mod aux

@@ -4,3 +4,4 @@ pub mod Sights
 pub mod Touched
 pub mod Known
 pub mod Owing
+pub mod News

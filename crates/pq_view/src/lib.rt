@@ -11,15 +11,18 @@
 //! roots take a walk.
 //!
 //! `View::owed` says which lists of diagnostics are owed to the editor: one to each open document.
+//! `Looks` says which files to read again after a look at the disk: those of which the file system
+//! tells anything new, and those that had changed too shortly before the last look.
 //!
 //! Modules: `names` (names below roots), `sight` (the questions, also of a view after a change),
 //! `touched` and `known` (the names that a change can touch), `edits` (the edits of names), `view`,
-//! `owed`, `laws`.
+//! `owed`, `looks`, `laws`.
 #![tactic(auto)]
 
 mod edits;
 mod known;
 mod laws;
+mod looks;
 mod names;
 mod owed;
 mod sight;
@@ -30,6 +33,7 @@ mod view;
 
 pub use edits::Edit;
 pub use laws::names_lead_back;
+pub use looks::{Looks, Stamp};
 pub use owed::Owed;
 pub use pq_names::{Memory, Text};
 pub use view::View;

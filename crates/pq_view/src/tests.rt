@@ -1,8 +1,10 @@
-//! A view as rows that one interpreter reads.
+//! A view as rows that one interpreter reads. Those of looks at the disk are in `looks`.
 //!
 //! A row is `WORD REST => WANT`. `roots`, `file`, `gone`, `open` and `close` change the view, and
 //! write an edit as `NAME=TEXT`, or `NAME-` for a file that becomes absent. `source`, `text`, `name`,
 //! `path`, `is_open` and `owed` ask it; what is owed is `PATH=NAME`.
+mod looks;
+
 use crate::edits::Edit;
 use crate::view::View;
 use pq_names::{Memory, Text};
