@@ -3,10 +3,13 @@ import json
 import os
 import subprocess
 import threading
+import time
 import urllib.parse
 
 # How long what is waited for may take to come, in seconds.
 LONGEST = 60.0
+# The pause before what is waited for is asked for again, in seconds.
+PAUSE = 0.02
 # The servers that were started.
 SERVERS = []
 
@@ -25,12 +28,22 @@ def uri_of(path):
 
 
 def write(folder, files):
-    """Writes files, by their names below a folder."""
+    """Writes files, by their names below a folder. Nobody sees a part of a text: a rename puts each file in its place."""
     for name, text in files.items():
         path = os.path.join(folder, name)
         os.makedirs(os.path.dirname(path), exist_ok=True)
-        with open(path, "w", encoding="utf-8", newline="") as sink:
+        with open(path + ".new", "w", encoding="utf-8", newline="") as sink:
             sink.write(text)
+        os.replace(path + ".new", path)
+
+
+def until(found, wanted, what):
+    """Waits until `found()` is `wanted`. It is asked for again and again."""
+    end = time.monotonic() + LONGEST
+    while (last := found()) != wanted:
+        if time.monotonic() > end:
+            raise Failed("%s: found %s, wanted %s" % (what, json.dumps(last), json.dumps(wanted)))
+        time.sleep(PAUSE)
 
 
 class Server:

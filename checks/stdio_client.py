@@ -9,7 +9,7 @@ import threading
 import time
 
 from messages import bodies_of, frame
-from server_process import LONGEST, Failed, Server, check, uri_of
+from server_process import LONGEST, Failed, Server, check, until, uri_of, write
 
 PULL = "textDocument/diagnostic"
 PUSH = "textDocument/publishDiagnostics"
@@ -21,6 +21,8 @@ LOOSE = "--loose"
 FAULTY_IMPORT, UNKNOWN_TYPE, INFORMATION = "P104", "P150", 3
 # How long it is quiet before no further message is expected, in seconds.
 QUIET = 0.4
+# A file that is written to see whether the server has looked at the disk.
+MARK = "mark.proto"
 # The bytes of a pipe that is as good as full.
 PIPE = 60000
 
@@ -32,7 +34,7 @@ class Editor(Server):
         super().__init__([program, "stdio", *words], subprocess.PIPE)
         # Replies by their ids, lists by their URIs in the order in which they came, and requests of the server.
         self.replies, self.pushed, self.requests, self.last_news = {}, [], [], time.monotonic()
-        self.next, self.versions = 0, {}
+        self.next, self.versions, self.looks = 0, {}, 0
         # While it is cleared, what the server writes is left in the pipe.
         self.reads = threading.Event()
         self.reads.set()
@@ -83,9 +85,24 @@ class Editor(Server):
     def be_quiet(self):
         """Waits until the server has done what was sent, and nothing came for a while after it."""
         self.be_read()
+        self.rest()
+
+    def rest(self):
+        """Waits until nothing came for a while."""
         with self.news:
             while time.monotonic() - self.last_news < QUIET:
                 self.news.wait(QUIET / 4)
+
+    def look(self, folder):
+        """Waits until the server has looked at all of the disk since now, though it is told of nothing.
+
+        A file below the folder, which is that of a root, is written twice. When the second text is seen, the look that saw the
+        first one has ended, and another one began after that."""
+        for _ in range(2):
+            self.looks += 1
+            count = 1 + self.looks % 2
+            write(folder, {MARK: 'syntax = "proto3";\n' + "message M { int32 x = 0; }\n" * count})
+            until(lambda: codes(self.pull(os.path.join(folder, MARK))).count("P120"), count, "a look at the disk")
 
     def wait_until_full(self):
         """Waits until the server waits for room in the pipe of its output. `reads` has to be cleared."""
@@ -140,8 +157,8 @@ class Editor(Server):
         document = {"uri": uri, "version": self.versions[uri]}
         self.say("textDocument/didChange", {"textDocument": document, "contentChanges": changes})
 
-    def close(self, path):
-        self.say("textDocument/didClose", {"textDocument": {"uri": uri_of(path)}})
+    def close(self, path, uri=None):
+        self.say("textDocument/didClose", {"textDocument": {"uri": uri or uri_of(path)}})
 
     def save(self, path):
         self.say("textDocument/didSave", {"textDocument": {"uri": uri_of(path)}})
@@ -158,6 +175,12 @@ class Editor(Server):
         if "items" not in found:
             raise Failed("the diagnostics of %s are %r" % (path, found))
         return found["items"]
+
+    def definition(self, path, line, character, uri=None):
+        """The URI of the file that has the definition of what is at a place of a file, or None."""
+        position = {"line": line, "character": character}
+        found = self.ask("textDocument/definition", {"textDocument": {"uri": uri or uri_of(path)}, "position": position})
+        return found and found.get("uri")
 
     def lists(self, path, uri=None):
         """The lists that were pushed for a file, in their order."""
