@@ -1,5 +1,6 @@
 """Rows of `checks/stdio.py`: how a session begins and ends, with its status and its lines of standard error."""
 import os
+import select
 import subprocess
 import time
 
@@ -7,7 +8,12 @@ from messages import frame
 from server_process import LONGEST, SERVERS, Failed, check, uri_of
 from stdio_client import Editor
 from stdio_files import rooted
-from stdio_lists import BAD, GOOD, at, begun
+from stdio_lists import BAD, GOOD, HEAD, at, begun
+
+# A session that has to end ends within so many seconds.
+SOON = 2.0
+# How many fields and scopes the text has whose list is dear.
+FIELDS, SCOPES = 20_000, 60
 
 
 def left(editor, wanted, *lines):
@@ -64,11 +70,11 @@ def frame_errors(place):
 
 
 def bad_ranges(place):
-    """A change with a range that the text does not have ends the session with status 3."""
+    """A change with a range whose end is before its start ends the session with status 3."""
     editor, path = begun(place), at(place, "a.proto")
     editor.open(path, GOOD)
-    line = {"line": 99, "character": 0}
-    editor.change(path, {"range": {"start": line, "end": line}, "text": "x"})
+    start, end = {"line": 1, "character": 4}, {"line": 0, "character": 2}
+    editor.change(path, {"range": {"start": start, "end": end}, "text": "x"})
     left(editor, 3, "pq_server: bad range")
 
 
@@ -94,6 +100,95 @@ def failed_writes(place):
         raise Failed("the server took 500 requests")
     except BrokenPipeError:
         check([server.wait(LONGEST), server.stderr.read().decode()], [4, "pq_server: write failed\n"], "the end")
+
+
+def failed_push(place):
+    """An editor that has closed its end of the output ends the session at the next list, with status 4, though it sends no more."""
+    editor = Raw(place)
+    editor.send("textDocument/didOpen", editor.document(at(place, "a.proto"), BAD))
+    editor.wait_for_bytes(b"publishDiagnostics")
+    os.close(editor.source)
+    editor.send("textDocument/didChange", {"textDocument": {"uri": uri_of(at(place, "a.proto")), "version": 2},
+                                           "contentChanges": [{"text": GOOD}]})
+    ends_soon(editor.server, 4, ["pq_server: write failed"], "after the write of a list failed")
+
+
+# ---- the end while something dear is under way
+
+
+class Raw:
+    """A session whose output can be closed by its reader. It has begun."""
+
+    def __init__(self, its):
+        self.source, sink = os.pipe()
+        words = [its.program, "stdio", *its.workers]
+        self.server = subprocess.Popen(words, stdin=subprocess.PIPE, stdout=sink, stderr=subprocess.PIPE)
+        SERVERS.append(self.server)
+        os.close(sink)
+        self.send("initialize", {"rootUri": uri_of(its.folder), "capabilities": {}}, id=1)
+        self.wait_for_bytes(b"capabilities")
+        self.send("initialized", {})
+
+    def send(self, method, params, **more):
+        self.server.stdin.write(frame(dict(more, jsonrpc="2.0", method=method, params=params)))
+        self.server.stdin.flush()
+
+    def document(self, path, text):
+        return {"textDocument": {"uri": uri_of(path), "languageId": "proto", "version": 1, "text": text}}
+
+    def wait_for_bytes(self, wanted):
+        """Reads until these bytes came."""
+        end, found = time.monotonic() + LONGEST, b""
+        while wanted not in found:
+            ready, _, _ = select.select([self.source], [], [], max(0, end - time.monotonic()))
+            piece = os.read(self.source, 65536) if ready else b""
+            if not piece:
+                raise Failed("%r did not come, but %r" % (wanted, found))
+            found += piece
+
+
+def ends_soon(server, status, lines, what):
+    """Checks that a server ends within SOON seconds, and how."""
+    start = time.monotonic()
+    try:
+        found = server.wait(LONGEST)
+    except subprocess.TimeoutExpired:
+        raise Failed("%s the server does not end" % what)
+    seconds = time.monotonic() - start
+    check([found, server.stderr.read().decode().splitlines()], [status, lines], "the end " + what)
+    if seconds > SOON:
+        raise Failed("%s the server ended after %.1f seconds" % (what, seconds))
+
+
+def dear_text():
+    """A text whose list takes a program that is not optimised half a minute, once its outline is there: many types that are in none of
+    many scopes."""
+    fields = "".join("Foo f%d = %d;\n" % (n, n + 1) for n in range(FIELDS))
+    return HEAD + "".join("message N%d {\n" % n for n in range(SCOPES)) + fields + "}" * SCOPES + "\n"
+
+
+def ends_while_busy(place):
+    """Where nothing is owed the session ends within two seconds, by each of its ends, though a dear list is being made."""
+    path, text = at(place, "dear.proto"), dear_text()
+    # The first write that fails is that of the reply to this request.
+    none = ("proto/none", {}, {"id": 3})
+    ways = (("after exit", [("exit", None, {})], 1), ("after shutdown and exit", [("shutdown", None, {"id": 2}), ("exit", None, {})], 0),
+            ("at the end of the input", [], 1), ("after a write failed", [none], 4))
+    for what, messages, status in ways:
+        raw = Raw(place)
+        raw.send("textDocument/didOpen", raw.document(path, text))
+        raw.send("textDocument/documentSymbol", {"textDocument": {"uri": uri_of(path)}}, id=9)
+        raw.wait_for_bytes(b'"id":9')
+        time.sleep(0.5)
+        if status == 4:
+            os.close(raw.source)
+        for method, params, more in messages:
+            raw.send(method, params, **more)
+        if not messages:
+            raw.server.stdin.close()
+        ends_soon(raw.server, status, ["pq_server: write failed"] * (status == 4), what)
+        if status != 4:
+            os.close(raw.source)
 
 
 def words_that_are_refused(place):

@@ -43,22 +43,55 @@ def after_open(place):
 
 
 def after_change(place):
-    """After a change a list comes only where it differs from the one before."""
+    """After each change a list comes with the new version, also where it is the one that came before."""
     editor, path = begun(place), at(place, "a.proto")
-    editor.open(path, BAD)
-    editor.expect_codes(path, "P120", "after the open")
-    editor.change(path, BAD + "// the same list\n")
+    texts = (BAD, BAD + "// the same list\n", BAD + "// the same list again\n", HEAD + "\nmessage M { int32 x = 0; }\n", GOOD, GOOD + "\n")
+    lines = (1, 1, 1, 2, None, None)
+    editor.open(path, texts[0])
+    for count, (text, line) in enumerate(zip(texts, lines), 1):
+        if count > 1:
+            editor.change(path, text)
+        editor.wait_for(lambda: len(editor.lists(path)) >= count, "the list of version %d" % count)
+        found = editor.lists(path)[-1]
+        check(found["version"], count, "the version of a list")
+        wanted = [] if line is None else [line]
+        check([it["range"]["start"]["line"] for it in found["diagnostics"]], wanted, "the lines of the list of version %d" % count)
     editor.be_quiet()
-    check(len(editor.lists(path)), 1, "how many lists came after a change that leaves the list")
-    editor.change(path, HEAD + "\nmessage M { int32 x = 0; }\n")
-    editor.wait_for(lambda: len(editor.lists(path)) == 2, "the list one line lower")
-    check(editor.lists(path)[1]["version"], 3, "its version")
-    check(editor.shown(path)[0]["range"]["start"]["line"], 2, "its line")
-    editor.change(path, GOOD)
-    editor.wait_for(lambda: len(editor.lists(path)) == 3, "the empty list")
-    check(editor.shown(path), [], "after the error was mended")
+    check(len(editor.lists(path)), len(texts), "how many lists came")
+    editor.end()
+
+
+def nothing_new(place):
+    """A document whose list and version stay gets no list again, whatever becomes of other documents and of the disk."""
+    write(place.folder, {"d.proto": HEAD + "message D {}\n"})
+    editor, a, b = begun(place), at(place, "a.proto"), at(place, "b.proto")
+    editor.open(a, BAD)
+    editor.open(b, HEAD + 'import "a.proto";\nimport "d.proto";\nmessage B { M m = 1; int32 x = 0; }\n')
+    for path in (a, b):
+        editor.expect_codes(path, "P120", "before, " + os.path.basename(path))
+    count = len(editor.lists(b))
+    for version in range(2, 6):
+        editor.change(a, BAD + "\n" * version)
+        editor.wait_for(lambda: editor.lists(a)[-1]["version"] == version, "the list of version %d" % version)
+    write(place.folder, {"d.proto": HEAD + "message D { int32 x = 1; }\n"})
+    editor.tell((at(place, "d.proto"), 2))
+    editor.save(b)
     editor.be_quiet()
-    check(len(editor.lists(path)), 3, "how many lists came")
+    check(len(editor.lists(b)), count, "how many lists of the other document came")
+    editor.end()
+
+
+def opened_again(place):
+    """A document that is closed, and opened again with the same version and text, gets its list again."""
+    write(place.folder, {"a.proto": BAD})
+    editor, path = begun(place), at(place, "a.proto")
+    for _ in range(3):
+        editor.versions.clear()
+        editor.open(path, BAD)
+        editor.expect_codes(path, "P120", "after the open")
+        check(editor.lists(path)[-1]["version"], 1, "its version")
+        editor.close(path)
+        editor.expect(path, [], "after the close")
     editor.end()
 
 
@@ -195,6 +228,41 @@ def overtaken(place):
         check(versions, sorted(versions), "the versions in their order")
     check_versions(place.program, editor, place.folder, states)
     editor.end()
+
+
+class Ordered(Editor):
+    """An editor that keeps the order in which lists and replies come: the ids of replies, and None for a list."""
+
+    def __init__(self, *words, **more):
+        self.order = []
+        super().__init__(*words, **more)
+
+    def take(self, body):
+        self.order.append(body["id"] if "id" in body else None)
+        super().take(body)
+
+
+def none_after_shutdown(place):
+    """No list comes after the reply to `shutdown`, though those of many importers are still owed."""
+    count, hub = 300, at(place, "hub.proto")
+    for changes in (1, 3):
+        editor = Ordered(place.program, *place.workers, params={"rootUri": uri_of(place.folder)})
+        editor.open(hub, HEAD + "message H {}\n")
+        paths = [at(place, "%d.proto" % n) for n in range(count)]
+        for path in paths:
+            editor.open(path, HEAD + 'import "hub.proto";\nmessage M { H h = 1; G g = 2; }\n')
+        for path in paths:
+            editor.expect_codes(path, "P150", "before")
+        for name in "GHG"[:changes]:
+            editor.change(hub, HEAD + "\n" + "message %s {}\n" % name)
+        label = editor.begin_to_ask("shutdown", None)
+        check(editor.reply(label).get("result"), None, "the reply to shutdown")
+        editor.rest()
+        # What comes with the end of the session comes after the reply, too.
+        editor.say("exit", None)
+        status, lines = editor.ended()
+        check([status, lines], [0, []], "the status and standard error")
+        check(editor.order[editor.order.index(label) + 1:].count(None), 0, "the lists after the reply to shutdown")
 
 
 def weaker_severities(place):
