@@ -193,15 +193,22 @@ where
         let was_served = self.session.root().is_some();
         let item = self.session.on(self.alloc, without_root(message))?;
         let is_served = self.session.root().is_some();
-        match (event, is_served) {
-            (Event::Greets(greeting), true) => {
-                if !was_served && !self.greet(greeting)? {
+        match event {
+            Event::Greets(greeting) => {
+                if !was_served && is_served && !self.greet(greeting)? {
                     return Ok(Step::Overtaken);
                 }
                 self.carry_out(Event::Other, item)
             }
-            (event, true) => self.carry_out(event, item),
-            (_, false) => self.carry_out(Event::Other, item),
+            // After this request nothing is served.
+            Event::ShutsDown => {
+                if was_served {
+                    self.output.end_lists(self.rt);
+                }
+                self.carry_out(Event::Other, item)
+            }
+            event if is_served => self.carry_out(event, item),
+            _ => self.carry_out(Event::Other, item),
         }
     }
 
@@ -209,12 +216,7 @@ where
     fn carry_out(&mut self, event: Event, item: Item<ProtoKey>) -> Result<Step, ScriptFault> {
         match item {
             Item::Ask(request) => self.ask(request),
-            Item::Say(request) => {
-                if let Event::ShutsDown = event {
-                    self.output.end_lists(self.rt);
-                }
-                self.hand_in(Post::Ask(request))
-            }
+            Item::Say(request) => self.hand_in(Post::Ask(request)),
             Item::Withdraw(label) => self.hand_in(Post::Withdraw(label)),
             Item::Edit(change) => self.edit(event, change),
             Item::Ignore => self.notice(event),
