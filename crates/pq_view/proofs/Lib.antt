@@ -10,3 +10,4 @@ pub mod LeadingBack
 pub mod MapPaths
 pub mod Owing
 pub mod News
+pub mod Facing

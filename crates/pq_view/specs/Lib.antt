@@ -3,4 +3,5 @@ pub mod Held
 pub mod Edits
 pub mod Owed
 pub mod Looks
+pub mod Shown
 pub mod aux

@@ -5,3 +5,4 @@ pub mod Touched
 pub mod Known
 pub mod Owing
 pub mod News
+pub mod Faces

@@ -12,11 +12,12 @@
 //!
 //! `View::owed` says which lists of diagnostics are owed to the editor: one to each open document.
 //! `Looks` says which files to read again after a look at the disk: those of which the file system
-//! tells anything new, and those that had changed too shortly before the last look.
+//! tells anything new, and those that had changed too shortly before the last look. `shown_path` is
+//! the path by which the editor knows a file, where roots are known by other paths than their own.
 //!
 //! Modules: `names` (names below roots), `sight` (the questions, also of a view after a change),
 //! `touched` and `known` (the names that a change can touch), `edits` (the edits of names), `view`,
-//! `owed`, `looks`, `laws`.
+//! `owed`, `looks`, `shown`, `laws`.
 #![tactic(auto)]
 
 mod edits;
@@ -25,6 +26,7 @@ mod laws;
 mod looks;
 mod names;
 mod owed;
+mod shown;
 mod sight;
 #[cfg(test)]
 mod tests;
@@ -36,4 +38,5 @@ pub use laws::names_lead_back;
 pub use looks::{Looks, Stamp};
 pub use owed::Owed;
 pub use pq_names::{Memory, Text};
+pub use shown::shown_path;
 pub use view::View;

@@ -3,9 +3,12 @@
 //! A row is `WORD REST => WANT`. `roots`, `file`, `gone`, `open` and `close` change the view, and
 //! write an edit as `NAME=TEXT`, or `NAME-` for a file that becomes absent. `source`, `text`, `name`,
 //! `path`, `is_open` and `owed` ask it; what is owed is `PATH=NAME`.
+//!
+//! A row of the path that is shown is `ROOTS | FACES | PATH => WANT`.
 mod looks;
 
 use crate::edits::Edit;
+use crate::shown::shown_path;
 use crate::view::View;
 use pq_names::{Memory, Text};
 use std::alloc::Global;
@@ -45,6 +48,21 @@ name /c/z => z
 source z => 7
 roots / => a/x=5 /b/x- b/x=1 b/y=2 z- c/z=7
 source b/x => 1
+";
+
+/// The rows of the path that is shown. A root without a face is shown as it is.
+const SHOWN: &str = "\
+/r | /f | /r/a/b => /f/a/b
+/r | /f | /x/a => /x/a
+/r | /f | /rr/a => /rr/a
+/r | /f | /r => /r
+/r | /f | /r//a => /r//a
+/r /r/s | /f /g | /r/s/a => /f/s/a
+/r/s /r | /g /f | /r/s/a => /g/a
+/r/s /r | /g /f | /r/a => /f/a
+/x /r | /f | /r/a => /r/a
+/r/s /r | | /r/a => /r/a
+/ /r | /f /g | /r/a => /f/r/a
 ";
 
 /// A text to show, or nothing.
@@ -93,13 +111,19 @@ fn owed_line(alloc: Global, view: &View) -> Result<String, Memory> {
     Ok(line)
 }
 
+/// The folders of a row. That of the file system is written `/`.
+fn folders(alloc: Global, words: &str) -> Result<Vec<Text>, Memory> {
+    let mut folders = Vec::new(alloc);
+    for word in words.split_whitespace() {
+        let folder = if word == "/" { "" } else { word };
+        folders.push(Text::new(alloc, folder)?)?;
+    }
+    Ok(folders)
+}
+
 /// Gives the view the roots `rest`.
 fn set_roots(alloc: Global, view: &mut View, rest: &str) -> Result<String, Memory> {
-    let mut roots = Vec::new(alloc);
-    for root in rest.split_whitespace() {
-        let root = if root == "/" { "" } else { root };
-        roots.push(Text::new(alloc, root)?)?;
-    }
+    let roots = folders(alloc, rest)?;
     line_of(alloc, &view.set_roots(roots)?)
 }
 
@@ -155,5 +179,29 @@ fn rows_hold(rt: HostRuntime) {
     let mut view = View::new(rt.alloc());
     for row in ROWS.lines() {
         check_row(&rt, &mut view, row);
+    }
+}
+
+/// The path that a row of `SHOWN` asks for.
+fn shown_row(alloc: Global, row: &str) -> Result<String, Memory> {
+    let (roots, rest) = match row.split_once('|') {
+        Some(parts) => parts,
+        None => (row, ""),
+    };
+    let (faces, path) = match rest.split_once('|') {
+        Some(parts) => parts,
+        None => (rest, ""),
+    };
+    let roots = folders(alloc, roots)?;
+    let faces = folders(alloc, faces)?;
+    shown_path(alloc, &roots, &faces, path.trim())
+}
+
+#[test]
+fn paths_are_shown(rt: HostRuntime) {
+    for row in SHOWN.lines() {
+        let (asked, want) = row.split_once(" =>").expect(&rt, row);
+        let found = shown_row(rt.alloc(), asked).expect(&rt, "out of memory");
+        assert_eq!(&rt; found.as_str(), want.trim(), "{row}");
     }
 }
