@@ -3,7 +3,7 @@
 //! A look sees of each file what the file system tells of it without its text. The paths to read
 //! again after a look are those where it differs from the look before. A file that was changed
 //! shortly before the look before is read again too, since a later change may leave the same times.
-ghost use Rattle.std.specs.Prelude.{◌≡◌, ◌↔◌, ◌++◌, ℕ, List, length, bytes_eq, Contains, None, IsTrue, IfOk, OnOk, OnErr, option_copied};
+ghost use Rattle.std.specs.Prelude.{◌≡◌, ◌↔◌, ◌++◌, ℕ, List, length, bytes_eq, Contains, None, IsTrue, IfOk, OnOk, OnErr, option_copied, option_map};
 ghost use Rattle.std.specs.List.{IsDistinct, filter};
 ghost use Rattle.pq_view.specs.Looks.{is_fresh, is_news, is_same_stamp, look_at, paths_seen, with_look};
 ghost use Rattle.pq_view.specs.aux.Known.{paths_of};
@@ -167,6 +167,26 @@ impl Looks {
         let is_fresh = is_fresh(stamp, now);
         self.files.insert(key, Look { stamp, is_fresh })?;
         Ok(())
+    }
+
+    /// What the look saw of the file at `path`, or `None` if no file was there.
+    pub fn stamp(&self, path: &str) -> Option<Stamp>
+        // The stamp of what was seen at the path.
+        ensures stamp { result ≡ option_map (λ look. look.stamp) (look_at self.now path.now) }
+    {
+        match self.files.get(path) {
+            Some(look) => Some(look.stamp),
+            None => None,
+        }
+    }
+
+    /// Whether the file at `path` has to be read again after this look, where `earlier` is the look
+    /// before.
+    pub fn is_news(&self, earlier: &Looks, path: &str) -> bool
+        // Whether the file is news.
+        ensures news { result ≡ is_news (look_at earlier.now path.now) (look_at self.now path.now) }
+    {
+        is_news(earlier.files.get(path), self.files.get(path))
     }
 
     /// The paths to read again after this look, where `earlier` is the look before: of files that
