@@ -86,7 +86,9 @@ impl<'a, F: Floor<H>, H: Wait, W: Write + Copy> Pusher<'a, F, H, W> {
             if self.rounds.is_overtaken(self.rt) {
                 break;
             }
-            if owed.len() >= AT_ONCE && !self.push_next(round, &mut owed)? {
+            // The document that was changed last waits for no other.
+            let most = if place == 1 { 1 } else { AT_ONCE };
+            if owed.len() >= most && !self.push_next(round, &mut owed)? {
                 return Ok(false);
             }
             if !self.ask(round, place, &mut owed)? {
