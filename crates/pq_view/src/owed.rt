@@ -34,8 +34,8 @@ impl View {
     /// With R roots, N paths and D documents it takes at most D R^2 look-ups of log N comparisons.
     /// `Memory` comes if an allocation fails.
     pub fn owed(&self) -> Result<Vec<Owed>, Memory>
-        // Each open document has one list, by the name at which its diagnostics are asked, and
-        // nothing else has one.
+        // Each open document has one list, under the name by which its diagnostics are asked. No
+        // other file has one.
         ensures owed { IfOk result (λ owed. AreOwed (view_of self.now) owed.items) }
     {
         let mut owed = Vec::new(self.alloc);
