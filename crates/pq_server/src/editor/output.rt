@@ -4,19 +4,14 @@ use std::alloc::Global;
 use std::io::Write;
 use std::sync::{Mutex, Wait};
 
-/// What is under the lock of an output.
-#[derive(Drop)]
-struct Stream<W> {
-    stream: W,
-    /// Whether the client has asked for the end, so that no list is sent any more.
-    is_ending: bool,
-}
-
 /// A stream to which frames are written, one at a time.
 #[derive(Drop)]
 pub(crate) struct Output<W> {
     alloc: Global,
-    stream: Mutex<Stream<W>>,
+    stream: Mutex<W>,
+    /// Whether the client has asked for the end, so that no list is sent any more. It has a lock of its
+    /// own, so that nobody waits for a write to set it.
+    is_ending: Mutex<bool>,
 }
 
 impl<W: Write + Copy> Output<W> {
@@ -24,10 +19,8 @@ impl<W: Write + Copy> Output<W> {
     pub(crate) fn new(alloc: Global, stream: W) -> Output<W> {
         Output {
             alloc,
-            stream: Mutex::new(Stream {
-                stream,
-                is_ending: false,
-            }),
+            stream: Mutex::new(stream),
+            is_ending: Mutex::new(false),
         }
     }
 
@@ -40,23 +33,24 @@ impl<W: Write + Copy> Output<W> {
     ///
     /// The errors are those of `write_frame`.
     pub(crate) fn send<H: Wait>(&self, rt: &H, body: &str) -> Result<(), ScriptFault> {
-        let it = self.stream.lock(rt);
-        let mut counted = Counted::new(it.stream);
+        let stream = self.stream.lock(rt);
+        let mut counted = Counted::new(*stream);
         write_frame(self.alloc, &mut counted, body.as_bytes())
     }
 
     /// Writes the frame of `body`, a list of diagnostics, unless the client has asked for the end.
     pub(crate) fn send_list<H: Wait>(&self, rt: &H, body: &str) -> Result<(), ScriptFault> {
-        let it = self.stream.lock(rt);
-        if it.is_ending {
+        let stream = self.stream.lock(rt);
+        // Asked under the lock of the stream: what is written after it was set is no list.
+        if *self.is_ending.lock(rt) {
             return Ok(());
         }
-        let mut counted = Counted::new(it.stream);
+        let mut counted = Counted::new(*stream);
         write_frame(self.alloc, &mut counted, body.as_bytes())
     }
 
-    /// Writes no list from now on.
+    /// Writes no list from now on, but for one that is being written.
     pub(crate) fn end_lists<H: Wait>(&self, rt: &H) {
-        self.stream.lock(rt).is_ending = true;
+        *self.is_ending.lock(rt) = true;
     }
 }
