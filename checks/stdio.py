@@ -20,9 +20,11 @@ import stdio_loose
 import stdio_oddities
 import stdio_random
 import stdio_view
+import stdio_views_random
 from server_rows import run
 
-MODULES = (stdio_lists, stdio_loose, stdio_files, stdio_view, stdio_disk, stdio_editors, stdio_ends, stdio_oddities, stdio_random)
+MODULES = (stdio_lists, stdio_loose, stdio_files, stdio_view, stdio_disk, stdio_editors, stdio_ends, stdio_oddities, stdio_random,
+           stdio_views_random)
 
 if __name__ == "__main__":
     sys.exit(run(MODULES))

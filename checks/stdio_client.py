@@ -160,8 +160,8 @@ class Editor(Server):
     def close(self, path, uri=None):
         self.say("textDocument/didClose", {"textDocument": {"uri": uri or uri_of(path)}})
 
-    def save(self, path):
-        self.say("textDocument/didSave", {"textDocument": {"uri": uri_of(path)}})
+    def save(self, path, uri=None):
+        self.say("textDocument/didSave", {"textDocument": {"uri": uri or uri_of(path)}})
 
     def tell(self, *changes):
         """Says that files were created (1), changed (2) or deleted (3) on the disk: pairs of a path and such a number."""
