@@ -7,7 +7,7 @@ fails if it never is; all other limits are wide. So a slow machine makes no row 
 
 Printed are, for each row, whether it holds, its sentence and its seconds. The status is 1 if a row does not hold.
 
-usage: checks/listen.py [--program P | --build] [--only NAME ..] [--list] [--workers N]
+usage: checks/listen.py [--program P | --build] [--only NAME ..] [--list] [--workers N] [--jobs N]
 """
 import sys
 

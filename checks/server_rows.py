@@ -1,6 +1,7 @@
 """What runs rows over a program: checks/stdio.py and checks/listen.py by themselves, and checks/servers.py both."""
 import argparse
 import inspect
+import multiprocessing
 import os
 import subprocess
 import sys
@@ -34,8 +35,10 @@ def sentence(row):
     return row.__doc__.split("\n")[0]
 
 
-def holds(name, row, words):
-    """Runs a row, and prints what was found. What a socket or a file refuses counts as a row that does not hold."""
+def held(given):
+    """Runs a row. Returns whether it holds, and what is printed of it. What a socket or a file refuses counts as a row that does not
+    hold."""
+    name, row, words = given
     start = time.monotonic()
     with tempfile.TemporaryDirectory() as folder:
         try:
@@ -48,10 +51,20 @@ def holds(name, row, words):
         finally:
             end_servers()
     mark, seconds = "ok" if why is None else "FAILED", time.monotonic() - start
-    print("%-6s %-24s %5.1f s  %s" % (mark, name, seconds, sentence(row)), flush=True)
-    if why is not None:
-        print("    %s" % why, flush=True)
-    return why is None
+    said = "%-6s %-24s %5.1f s  %s" % (mark, name, seconds, sentence(row))
+    return why is None, said if why is None else "%s\n    %s" % (said, why)
+
+
+def failing(chosen, words):
+    """Runs rows, some beside each other, and prints what was found. Returns the names of those that do not hold."""
+    failed = []
+    # A process for each row: it ends the servers that it started.
+    with multiprocessing.Pool(words.jobs, maxtasksperchild=1) as pool:
+        given = [(name, row, words) for name, row in chosen]
+        for (name, _), (is_held, said) in zip(chosen, pool.imap(held, given, chunksize=1)):
+            print(said, flush=True)
+            failed += [] if is_held else [name]
+    return failed
 
 
 def built(folder):
@@ -74,6 +87,7 @@ def words_for():
     words.add_argument("--seed", type=int, default=1)
     words.add_argument("--steps", type=int, default=300, help="the steps of the random session")
     words.add_argument("--workers", type=int, default=2)
+    words.add_argument("--jobs", type=int, default=3, help="how many rows run beside each other; most of them wait")
     return words
 
 
@@ -94,6 +108,6 @@ def run(modules, builds=False):
     with tempfile.TemporaryDirectory() as folder:
         if words.build:
             words.program = built(folder)
-        failed = [name for name, row in chosen if not holds(name, row, words)]
+        failed = failing(chosen, words)
     print("%d rows, %d failed%s" % (len(chosen), len(failed), "".join(" " + name for name in failed)))
     return 1 if failed else 0

@@ -3,7 +3,7 @@
 
 Printed are, for each row, whether it holds, its sentence and its seconds. The status is 1 if a row does not hold.
 
-usage: checks/servers.py [--program P] [--only NAME ..] [--list] [--seed N] [--steps N] [--workers N]
+usage: checks/servers.py [--program P] [--only NAME ..] [--list] [--seed N] [--steps N] [--workers N] [--jobs N]
 """
 import sys
 

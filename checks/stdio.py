@@ -7,7 +7,7 @@ fail. That nothing more comes is taken for shown after 0.4 seconds without a mes
 
 Printed are, for each row, whether it holds, its sentence and its seconds. The status is 1 if a row does not hold.
 
-usage: checks/stdio.py [--program P | --build] [--only NAME ..] [--list] [--seed N] [--steps N] [--workers N]
+usage: checks/stdio.py [--program P | --build] [--only NAME ..] [--list] [--seed N] [--steps N] [--workers N] [--jobs N]
 """
 import sys
 

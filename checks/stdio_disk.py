@@ -17,8 +17,8 @@ from texts import texts_in
 
 # What is seen at once takes at most so many seconds in the middle. Looks at the disk are further apart.
 AT_ONCE = 0.3
-# How often two texts are written one right after the other.
-TWICE = 25
+# Of how many files two texts are written one right after the other.
+TWICE = 30
 # The user and the settings of git for a scratch repository.
 GIT = ("git", "-c", "user.name=one", "-c", "user.email=one@example.com", "-c", "gc.auto=0", "-c", "core.hooksPath=/dev/null")
 
@@ -97,7 +97,9 @@ def unsaid_root(place):
         editor.expect_codes(user, "P102 P150", "while the root is away")
         os.rename(at(place, "away"), at(place, "r"))
         editor.expect_codes(user, "", "once it is back")
-    editor.end()
+    lines = editor.lines()
+    check(len(lines) <= 2, True, "at most a line for each time that the root is away: %r" % lines)
+    editor.end(*((at(place, "r"),) for _ in lines))
 
 
 def unsaid_below_two(place):
@@ -128,17 +130,16 @@ def unsaid_of_open_files(place):
     user = user_of(place, editor, "x/b.proto", folder="r")
     editor.open(path, having())
     editor.expect(user, [], "before")
-    steps = (("changed", lambda: write(place.folder, {"r/x/b.proto": having("S")})),
-             ("overwritten", lambda: overwrite(path, having("S2"))),
+    steps = (("changed", lambda: overwrite(path, having("S"))),
              ("removed", lambda: os.remove(path)),
-             ("made anew", lambda: write(place.folder, {"r/x/b.proto": having("S")})),
-             ("in a folder that is gone", lambda: os.rename(at(place, "r/x"), at(place, "away"))),
-             ("in a folder that is back", lambda: os.rename(at(place, "away"), at(place, "r/x"))))
+             ("in a folder that is gone", lambda: os.rename(at(place, "r/x"), at(place, "away"))))
     for what, step in steps:
         step()
         editor.look(at(place, "r"))
         check([codes(editor.pull(user)), codes(editor.pull(path))], [[], []], "the file is open and " + what)
-        check({codes(it["diagnostics"]) != [] for it in editor.lists(path)} <= {False}, True, "the lists of the file, " + what)
+        check([it["diagnostics"] for it in editor.lists(path) if it["diagnostics"]], [], "lists of the file, " + what)
+    os.rename(at(place, "away"), at(place, "r/x"))
+    write(place.folder, {"r/x/b.proto": having("S")})
     check(codes(editor.shown(user)), [], "the list of its importer")
     editor.close(path)
     editor.expect_codes(user, "P150", "after the close")
@@ -154,7 +155,7 @@ def replaced_files(place):
     editor = rooted(place, "r")
     user, path = user_of(place, editor, "b.proto", folder="r"), at(place, "r/b.proto")
     editor.expect(user, [], "before")
-    for age in (0, 3600, 0, -3600):
+    for age in (0, 3600):
         for kind, wanted in (("S", "P150"), ("T", "")):
             there = os.stat(path)
             write(place.folder, {"spare": having(kind)})
@@ -170,7 +171,7 @@ def old_times(place):
     editor, path = begun(place), at(place, "b.proto")
     user = user_of(place, editor, "b.proto")
     editor.expect(user, [], "before")
-    for kind, wanted in (("S", "P150"), ("T", "")) * 3:
+    for kind, wanted in (("S", "P150"), ("T", "")):
         there = os.stat(path)
         overwrite(path, having(kind))
         os.utime(path, ns=(there.st_atime_ns, there.st_mtime_ns))
@@ -180,25 +181,22 @@ def old_times(place):
 
 def written_twice(place):
     """Of two texts of one length that are written right after each other the second one is seen."""
-    write(place.folder, {"b.proto": having("T")})
-    editor, path = begun(place), at(place, "b.proto")
-    user = user_of(place, editor, "b.proto")
-    editor.expect(user, [], "before")
-    for turn in range(TWICE):
-        # The editor says something of the first text alone, so that this one may be read before the other is there.
-        overwrite(path, having("R"))
-        editor.tell((path, CHANGED))
-        if turn % 2:
-            editor.pull(path)
-        overwrite(path, having("S"))
-        editor.look(place.folder)
-        check(codes(editor.pull(user)), ["P150"], "the second text, turn %d" % turn)
-        overwrite(path, having("S"))
-        editor.tell((path, CHANGED))
-        if turn % 2:
-            editor.pull(path)
-        overwrite(path, having("T"))
-        editor.expect_codes(user, "", "the second text of the other two, turn %d" % turn)
+    names = ["f%d.proto" % n for n in range(TWICE)]
+    write(place.folder, dict.fromkeys(names, having("T")))
+    editor, users = begun(place), []
+    for name in names:
+        users.append(user_of(place, editor, name))
+    for first, second in (("R", "S"), ("R", "T"), ("T", "S"), ("S", "T")):
+        for number, name in enumerate(names):
+            # The editor says something of the first text alone, so that this one may be read before the other is there.
+            overwrite(at(place, name), having(first))
+            editor.tell((at(place, name), CHANGED))
+            if number % 2:
+                editor.pull(at(place, name))
+            overwrite(at(place, name), having(second))
+        for user in users:
+            what = "%s of %s after %s" % (second, os.path.basename(user), first)
+            until(lambda: codes(editor.pull(user)), ["P150"] if second == "S" else [], what)
     editor.end()
 
 
@@ -228,7 +226,7 @@ def links_that_turn(place):
     editor = rooted(place, "r")
     user = user_of(place, editor, "b.proto", folder="r")
     editor.expect(user, [], "before")
-    for name, wanted in (("s", "P150"), ("t", "")) * 2:
+    for name, wanted in (("s", "P150"), ("t", "")):
         os.symlink("../away/%s.proto" % name, at(place, "r/new"))
         os.replace(at(place, "r/new"), path)
         editor.expect_codes(user, wanted, "the link leads to %s" % name)
@@ -319,6 +317,38 @@ def at_once(place):
     editor.end()
 
 
+def right_after(place):
+    """What is read at once, after news of a file or the close of its document, does not hide what becomes of the file right after."""
+    ways = (("news", lambda editor, path, kind: editor.tell((path, kind))),
+            ("close", lambda editor, path, kind: (editor.open(path, HEAD), editor.close(path))))
+    cases = {"%s_%s.proto" % (way, what): (say, what) for way, say in ways for what in ("new", "gone", "other", "again")}
+    aside, expected = {name: at(place, name + ".aside") for name in cases}, {}
+    write(place.folder, {name: having() for name, (_, what) in cases.items() if what != "new"})
+    editor = begun(place)
+    users = {name: user_of(place, editor, name) for name in cases}
+    editor.look(place.folder)
+    for name, (say, what) in cases.items():
+        path = at(place, name)
+        if what in ("gone", "other"):
+            os.rename(path, aside[name])
+        if what in ("new", "other"):
+            write(place.folder, {name: having("T" if what == "new" else "S")})
+        if what == "again":
+            overwrite(path, having("S"))
+        say(editor, path, {"new": CREATED, "gone": DELETED}.get(what, CHANGED))
+        now = {"new": [], "gone": ["P102", "P150"]}.get(what, ["P150"])
+        check(codes(editor.pull(users[name])), now, "an importer of %s, at once" % name)
+        if what == "new":
+            os.remove(path)
+        elif what == "again":
+            overwrite(path, having("T"))
+        else:
+            os.replace(aside[name], path)
+        expected[name] = ["P102", "P150"] if what == "new" else []
+    until(lambda: {name: codes(editor.pull(user)) for name, user in users.items()}, expected, "the importers at the end")
+    editor.end()
+
+
 def told_of_folders(place):
     """News of a folder that was made, renamed or removed brings what is below it, whatever its kind of news."""
     write(place.folder, {"r/a.proto": ""})
@@ -350,9 +380,8 @@ def one_line_a_file(place):
     names = ("long.proto", "bytes.proto", "link.proto")
     editor = begun(place)
     users = [user_of(place, editor, name) for name in names]
-    for _ in range(3):
-        editor.look(place.folder)
-        editor.save(users[0])
+    editor.look(place.folder)
+    editor.save(users[0])
     for user in users:
         is_there = codes(editor.pull(user))
         check(is_there, ["P102", "P150"], "an importer of a file that cannot be read")

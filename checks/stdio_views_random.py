@@ -6,8 +6,8 @@ of each spelling, edited, closed unsaved and saved; files and folders are writte
 session the editor says of each change on the disk. After each few steps, what is shown of each open document, what is answered
 of it and of files that are not open, and the URIs of definitions are compared with what the model and `script --loose` say.
 
-What the editor says of counts at once. What it does not say of counts after LATE seconds; what is later is counted, and is wrong
-by the command line.
+What the editor says of a file counts at once, and what it says of a folder within PROMPT seconds. What it does not say counts after
+LATE seconds. What is later is counted, and is wrong by the command line.
 
 Printed are the sessions that are wrong, and for each what was found. The status is 1 if there is one.
 
@@ -35,8 +35,8 @@ from stdio_client import LOOSE, PULL, Editor, codes, message, softened, turned
 from stdio_files import CHANGED, CREATED, DELETED
 from stdio_random import PIECES, place_of, text_of
 
-# The seconds after which a change on the disk of which nothing is said counts.
-LATE = 3.0
+# The seconds after which a change on the disk counts: of a folder of which the editor says something, and of what it does not say.
+PROMPT, LATE = 1.0, 3.0
 # After so many steps what is shown is compared.
 BETWEEN = 6
 # The roots, as they are written and as they are, and the files below them and outside.
@@ -145,6 +145,8 @@ class Session:
         words = itertools.chain.from_iterable(("--root", written) for written, _ in roots)
         self.editor = Editor(program, *workers, *words, params={"rootUri": uri_of(folder)})
         self.uris, self.states, self.late, self.longest = set(), [], 0, 0.0
+        # Whether a folder has moved since what is shown was compared.
+        self.has_moved = False
 
     def at(self, name):
         return os.path.join(self.folder, name)
@@ -158,6 +160,10 @@ class Session:
             steps += (self.change, self.replace, self.close, self.save)
             weights += (8, 4, 4, 2)
         self.chance.choices(steps, weights)[0]()
+        if self.is_told and self.has_moved:
+            # The next edits come once that is seen.
+            self.compare("a folder that moved")
+            self.states.clear()
         self.keep_state()
 
     def keep_state(self):
@@ -267,12 +273,11 @@ class Session:
 
     def move(self, moved):
         """Files have other paths on the disk, or are gone. What is seen of them meanwhile is right of no state."""
+        self.has_moved = True
         for path, other in moved.items():
             text = self.view.disk.pop(path)
             if other is not None:
                 self.view.disk[other] = text
-        if moved:
-            self.states.clear()
 
     def be_read(self):
         """The server has read from the disk what it was told of."""
@@ -294,21 +299,21 @@ class Session:
     # ---- what is compared
 
     def waited(self, found, wanted, what):
-        """Waits until `found()` is `wanted`. What the editor said of has to be right at once."""
+        """Waits until `found()` is `wanted`. What the editor said of a file has to be right at once."""
         start = time.monotonic()
         while (last := found()) != wanted:
-            if self.is_told or time.monotonic() > start + LONGEST:
+            if self.is_told and not self.has_moved or time.monotonic() > start + LONGEST:
                 raise Failed("%s: found %s, wanted %s" % (what, json.dumps(last), json.dumps(wanted)))
             time.sleep(PAUSE)
         seconds = time.monotonic() - start
         self.longest = max(self.longest, seconds)
-        self.late += not self.is_told and seconds > LATE
+        self.late += seconds > (PROMPT if self.is_told else LATE)
 
     def pulled(self, uri):
         return self.editor.ask(PULL, {"textDocument": {"uri": uri}}).get("items")
 
     def compare(self, step):
-        view, what = self.view, "after step %d of seed %d, " % (step, self.seed)
+        view, what = self.view, "after step %s of seed %d, " % (step, self.seed)
         try:
             self.oracle.take(view.sources())
             right = {path: self.oracle.list_of(view.name_of(path)) for path in view.documents}
@@ -326,6 +331,7 @@ class Session:
                 self.editor.expect(None, [], what + "closed, " + uri, uri=uri)
             for path in sorted(view.documents):
                 self.compare_definition(path, what)
+            self.has_moved = False
         except Failed as why:
             raise Failed("%s\n    roots %s\n    disk %s\n    documents %s" % (why, view.roots, json.dumps(view.disk), json.dumps(view.documents)))
 
@@ -374,7 +380,8 @@ class Session:
         self.compare(steps)
         if self.is_told and self.states:
             self.check_versions()
-        self.editor.end()
+        # A root that is away may leave a line.
+        self.editor.end(*((self.at(FOLDERS[2][0]),) for _ in self.editor.lines()))
         return self.late, self.longest
 
 
@@ -440,8 +447,8 @@ def main():
             if why is not None:
                 wrong += 1
                 print("seed %d: %s" % (seed, why), flush=True)
-    print("%d sessions of %d steps in %.0f s, %d wrong; %d waits of more than %.0f s, the longest %.2f s"
-          % (words.sessions, words.steps, time.monotonic() - start, wrong, late, LATE, longest))
+    print("%d sessions of %d steps in %.0f s, %d wrong; %d waits were too long, the longest took %.2f s"
+          % (words.sessions, words.steps, time.monotonic() - start, wrong, late, longest))
     return 1 if wrong or late else 0
 
 
