@@ -371,7 +371,7 @@ class Session:
         return first is None or first[0] != version
 
     def run(self, steps):
-        """Makes the steps. Returns how many waits were too long, and the longest."""
+        """Makes the steps. Returns how many waits were too long, the longest, and how many lines of standard error came."""
         for step in range(1, steps + 1):
             self.step()
             if step % BETWEEN == 0 or step == steps:
@@ -380,9 +380,9 @@ class Session:
         self.compare(steps)
         if self.is_told and self.states:
             self.check_versions()
-        # A root that is away may leave a line.
-        self.editor.end(*((self.at(FOLDERS[2][0]),) for _ in self.editor.lines()))
-        return self.late, self.longest
+        # A root that is away, and a file that is gone when it is read, may leave a line.
+        self.editor.end(*((self.folder,) for _ in self.editor.lines()))
+        return self.late, self.longest, len(self.editor.lines())
 
 
 def sessions_at_once(place, seeds, steps, is_told):
@@ -416,15 +416,14 @@ def random_views_untold(place):
 
 
 def played(given):
-    """A session by itself: its seed, what is wrong with it or None, how many waits were too long, and the longest."""
+    """A session by itself: its seed, what is wrong with it or None, and what it returns."""
     words, seed = given
     with tempfile.TemporaryDirectory() as folder:
         try:
             session = Session(words.program, ("--workers", str(words.workers)), os.path.realpath(folder), seed, seed % 2 == 0)
-            late, longest = session.run(words.steps)
-            return seed, None, late, longest
+            return seed, None, session.run(words.steps)
         except (Failed, OSError, EOFError, ValueError) as why:
-            return seed, "%s: %s" % (type(why).__name__, why), 0, 0
+            return seed, "%s: %s" % (type(why).__name__, why), (0, 0, 0)
         finally:
             end_servers()
 
@@ -439,16 +438,16 @@ def main():
     words.add_argument("--workers", type=int, default=2)
     words = words.parse_args()
     words.program = os.path.abspath(words.program)
-    start, wrong, late, longest = time.monotonic(), 0, 0, 0.0
+    start, wrong, late, longest, lines = time.monotonic(), 0, 0, 0.0, 0
     with multiprocessing.Pool(words.processes, maxtasksperchild=1) as pool:
         seeds = range(words.seed, words.seed + words.sessions)
-        for seed, why, count, seconds in pool.imap_unordered(played, [(words, seed) for seed in seeds]):
-            late, longest = late + count, max(longest, seconds)
+        for seed, why, found in pool.imap_unordered(played, [(words, seed) for seed in seeds]):
+            late, longest, lines = late + found[0], max(longest, found[1]), lines + found[2]
             if why is not None:
                 wrong += 1
                 print("seed %d: %s" % (seed, why), flush=True)
-    print("%d sessions of %d steps in %.0f s, %d wrong; %d waits were too long, the longest took %.2f s"
-          % (words.sessions, words.steps, time.monotonic() - start, wrong, late, longest))
+    print("%d sessions of %d steps in %.0f s, %d wrong; %d waits were too long, the longest took %.2f s; %d lines of standard error"
+          % (words.sessions, words.steps, time.monotonic() - start, wrong, late, longest, lines))
     return 1 if wrong or late else 0
 
 
