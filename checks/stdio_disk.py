@@ -7,9 +7,10 @@ import os
 import shutil
 import statistics
 import subprocess
+import sys
 import time
 
-from server_process import LONGEST, Failed, check, until, uri_of, write
+from server_process import LONGEST, SERVERS, Failed, check, until, uri_of, write
 from stdio_client import codes, shown_by_rights
 from stdio_files import CHANGED, CREATED, DELETED, MOST_BYTES, UNREADABLE, having, rooted, using
 from stdio_lists import BAD, HEAD, at, begun
@@ -19,6 +20,18 @@ from texts import texts_in
 AT_ONCE = 0.3
 # Of how many files two texts are written one right after the other.
 TWICE = 30
+# How many files come and go, and what makes them do that for two seconds.
+COMING = 100
+COMER = """import os, sys, time
+text, *paths = sys.argv[1:]
+end = time.monotonic() + 2
+while time.monotonic() < end:
+    for path in paths:
+        with open(path, "w") as sink:
+            sink.write(text)
+    for path in paths:
+        os.remove(path)
+"""
 # The user and the settings of git for a scratch repository.
 GIT = ("git", "-c", "user.name=one", "-c", "user.email=one@example.com", "-c", "gc.auto=0", "-c", "core.hooksPath=/dev/null")
 
@@ -368,7 +381,22 @@ def told_of_folders(place):
     editor.end()
 
 
-# ---- files that cannot be read
+# ---- files that cannot be read, and files that are gone
+
+
+def files_that_come_and_go(place):
+    """Files that are gone again when the server reads them leave no line, and are absent at the end."""
+    os.makedirs(at(place, "x"))
+    names = ["x/f%d.proto" % n for n in range(COMING)]
+    editor = begun(place)
+    program = subprocess.Popen([sys.executable, "-c", COMER, having(), *[at(place, name) for name in names]])
+    SERVERS.append(program)
+    while program.poll() is None:
+        editor.tell((at(place, "x"), CHANGED), (at(place, names[0]), CHANGED))
+        editor.be_read()
+    until(lambda: [codes(editor.pull(at(place, name))) for name in names], [[]] * len(names), "the files at the end")
+    editor.look(place.folder)
+    editor.end()
 
 
 def one_line_a_file(place):

@@ -167,28 +167,60 @@ def dear_text():
     return HEAD + "".join("message N%d {\n" % n for n in range(SCOPES)) + fields + "}" * SCOPES + "\n"
 
 
-def ends_while_busy(place):
-    """Where nothing is owed the session ends within two seconds, by each of its ends, though a dear list is being made."""
-    path, text = at(place, "dear.proto"), dear_text()
-    # The first write that fails is that of the reply to this request.
-    none = ("proto/none", {}, {"id": 3})
-    ways = (("after exit", [("exit", None, {})], 1), ("after shutdown and exit", [("shutdown", None, {"id": 2}), ("exit", None, {})], 0),
-            ("at the end of the input", [], 1), ("after a write failed", [none], 4))
-    for what, messages, status in ways:
-        raw = Raw(place)
-        raw.send("textDocument/didOpen", raw.document(path, text))
-        raw.send("textDocument/documentSymbol", {"textDocument": {"uri": uri_of(path)}}, id=9)
-        raw.wait_for_bytes(b'"id":9')
-        time.sleep(0.5)
-        if status == 4:
-            os.close(raw.source)
-        for method, params, more in messages:
-            raw.send(method, params, **more)
-        if not messages:
-            raw.server.stdin.close()
-        ends_soon(raw.server, status, ["pq_server: write failed"] * (status == 4), what)
-        if status != 4:
-            os.close(raw.source)
+def busy(its):
+    """A session in which a dear list is being made, and nothing is owed."""
+    raw, path = Raw(its), at(its, "dear.proto")
+    raw.send("textDocument/didOpen", raw.document(path, dear_text()))
+    raw.send("textDocument/documentSymbol", {"textDocument": {"uri": uri_of(path)}}, id=9)
+    raw.wait_for_bytes(b'"id":9')
+    time.sleep(0.5)
+    return raw
+
+
+def exit_while_busy(place):
+    """After `exit` the session ends within two seconds, though a dear list is being made."""
+    raw = busy(place)
+    raw.send("exit", None)
+    ends_soon(raw.server, 1, [], "after exit")
+    os.close(raw.source)
+
+
+def shutdown_while_busy(place):
+    """After `shutdown` and `exit` the session ends within two seconds, though a dear list is being made."""
+    raw = busy(place)
+    raw.send("shutdown", None, id=2)
+    raw.send("exit", None)
+    ends_soon(raw.server, 0, [], "after shutdown and exit")
+    os.close(raw.source)
+
+
+def reply_while_busy(place):
+    """An editor that waits for the reply to `shutdown` gets it, and the session ends within two seconds of it and `exit`."""
+    raw, start = busy(place), time.monotonic()
+    raw.send("shutdown", None, id=2)
+    raw.wait_for_bytes(b'"id":2')
+    seconds = time.monotonic() - start
+    if seconds > SOON:
+        raise Failed("the reply to shutdown came after %.1f seconds" % seconds)
+    raw.send("exit", None)
+    ends_soon(raw.server, 0, [], "after the reply to shutdown and exit")
+    os.close(raw.source)
+
+
+def end_of_input_while_busy(place):
+    """At the end of the input the session ends within two seconds, though a dear list is being made."""
+    raw = busy(place)
+    raw.server.stdin.close()
+    ends_soon(raw.server, 1, [], "at the end of the input")
+    os.close(raw.source)
+
+
+def failed_write_while_busy(place):
+    """After a reply could not be written the session ends within two seconds, though the input is open and a dear list is being made."""
+    raw = busy(place)
+    os.close(raw.source)
+    raw.send("proto/none", {}, id=3)
+    ends_soon(raw.server, 4, ["pq_server: write failed"], "after a write failed")
 
 
 def words_that_are_refused(place):

@@ -234,12 +234,27 @@ class Ordered(Editor):
     """An editor that keeps the order in which lists and replies come: the ids of replies, and None for a list."""
 
     def __init__(self, *words, **more):
-        self.order = []
+        self.order, self.held = [], None
         super().__init__(*words, **more)
 
     def take(self, body):
         self.order.append(body["id"] if "id" in body else None)
         super().take(body)
+
+    def begin_to_hold(self):
+        """What is sent is held from now on."""
+        self.held = []
+
+    def send_held(self):
+        """Sends what was held by one write."""
+        held, self.held = self.held, None
+        self.send(b"".join(held))
+
+    def send(self, data):
+        if self.held is None:
+            super().send(data)
+        else:
+            self.held.append(data)
 
 
 def none_after_shutdown(place):
@@ -253,9 +268,12 @@ def none_after_shutdown(place):
             editor.open(path, HEAD + 'import "hub.proto";\nmessage M { H h = 1; G g = 2; }\n')
         for path in paths:
             editor.expect_codes(path, "P150", "before")
+        # The last change comes with `shutdown`, so that no list of it comes before that is read.
+        editor.begin_to_hold()
         for name in "GHG"[:changes]:
             editor.change(hub, HEAD + "\n" + "message %s {}\n" % name)
         label = editor.begin_to_ask("shutdown", None)
+        editor.send_held()
         check(editor.reply(label).get("result"), None, "the reply to shutdown")
         editor.rest()
         # What comes with the end of the session comes after the reply, too.

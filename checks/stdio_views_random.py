@@ -21,6 +21,7 @@ import os
 import random
 import re
 import shutil
+import signal
 import subprocess
 import sys
 import tempfile
@@ -438,6 +439,8 @@ def main():
     words.add_argument("--workers", type=int, default=2)
     words = words.parse_args()
     words.program = os.path.abspath(words.program)
+    # So that the sessions end too.
+    signal.signal(signal.SIGTERM, lambda number, _: sys.exit(128 + number))
     start, wrong, late, longest, lines = time.monotonic(), 0, 0, 0.0, 0
     with multiprocessing.Pool(words.processes, maxtasksperchild=1) as pool:
         seeds = range(words.seed, words.seed + words.sessions)
