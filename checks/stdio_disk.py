@@ -10,7 +10,7 @@ import subprocess
 import sys
 import time
 
-from server_process import LONGEST, SERVERS, Failed, check, until, uri_of, write
+from server_process import LONGEST, SERVERS, Failed, check, until, write
 from stdio_client import codes, shown_by_rights
 from stdio_files import CHANGED, CREATED, DELETED, MOST_BYTES, UNREADABLE, having, rooted, using
 from stdio_lists import BAD, HEAD, at, begun

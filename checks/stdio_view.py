@@ -4,7 +4,7 @@ import os
 from server_process import check, until, uri_of, write
 from stdio_client import Editor, codes
 from stdio_files import CHANGED, CREATED, DELETED, having, rooted, using
-from stdio_lists import HEAD, at, begun
+from stdio_lists import HEAD, at
 
 # The place of the type in a text of `using`.
 TYPE = (2, 15)

@@ -334,7 +334,8 @@ class Session:
                 self.compare_definition(path, what)
             self.has_moved = False
         except Failed as why:
-            raise Failed("%s\n    roots %s\n    disk %s\n    documents %s" % (why, view.roots, json.dumps(view.disk), json.dumps(view.documents)))
+            state = (view.roots, json.dumps(view.disk), json.dumps(view.documents))
+            raise Failed("%s\n    roots %s\n    disk %s\n    documents %s" % (why, *state))
 
     def compare_definition(self, path, what):
         """The URI of the definition of a type that a document uses."""
