@@ -261,24 +261,29 @@ class Session:
             self.be_read()
             os.makedirs(os.path.dirname(new), exist_ok=True)
             os.rename(old, new)
-            self.move({path: new + path[len(old):] for path in self.view.disk if path.startswith(old + "/")})
-            self.tell((old, DELETED), (new, CREATED))
+            self.move(old, new)
 
     def remove_folder(self):
         old = self.at(self.chance.choice(self.chance.choice(FOLDERS)))
         if os.path.isdir(old):
             self.be_read()
             shutil.rmtree(old)
-            self.move({path: None for path in self.view.disk if path.startswith(old + "/")})
-            self.tell((old, DELETED))
+            self.move(old, None)
 
-    def move(self, moved):
-        """Files have other paths on the disk, or are gone. What is seen of them meanwhile is right of no state."""
+    def move(self, old, new):
+        """The files below a folder are below another one, or are gone. What is seen of them meanwhile is right of no state.
+
+        The editor says so of the folder or of each file."""
         self.has_moved = True
-        for path, other in moved.items():
+        told = [(old, DELETED)] if new is None else [(old, DELETED), (new, CREATED)]
+        files = []
+        for path in [path for path in self.view.disk if path.startswith(old + "/")]:
             text = self.view.disk.pop(path)
-            if other is not None:
-                self.view.disk[other] = text
+            files.append((path, DELETED))
+            if new is not None:
+                self.view.disk[new + path[len(old):]] = text
+                files.append((new + path[len(old):], CREATED))
+        self.tell(*(told if self.chance.random() < 0.5 else files))
 
     def be_read(self):
         """The server has read from the disk what it was told of."""
