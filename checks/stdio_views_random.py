@@ -51,6 +51,9 @@ NAMES = ["a.proto", "b.proto", "c.proto", "x/d.proto", "x/e.proto", "y/d.proto",
 # Folders that take each other's name.
 FOLDERS = (("one/x", "one/y"), ("real/x", "real/y"), ("one/in", "one/gone"), ("real/in", "out/in"), ("one/in/x", "real/in/x"))
 USE = re.compile(r"\b([ABC]) f\d")
+# A document outside the roots that stays open. Its list says which names there are: it imports each that a file may have.
+PROBE = "out/probe.proto"
+PROBED = NAMES + ["y/e.proto", "in/x/d.proto", "in/c.proto"] + ["gone/%s.proto" % name for name in ("a", "b", "c", "x/d", "in/a")]
 
 
 class View:
@@ -148,6 +151,9 @@ class Session:
         self.uris, self.states, self.late, self.longest = set(), [], 0, 0.0
         # Whether a folder has moved since what is shown was compared.
         self.has_moved = False
+        probe = self.at(PROBE)
+        self.has_text(probe, uri_of(probe), 'syntax = "proto3";\n' + "".join('import "%s";\n' % name for name in PROBED))
+        self.editor.open(probe, self.view.documents[probe][2])
 
     def at(self, name):
         return os.path.join(self.folder, name)
@@ -157,7 +163,7 @@ class Session:
     def step(self):
         steps = (self.open, self.write, self.remove, self.rename, self.rename_folder, self.remove_folder)
         weights = (6, 5, 2, 2, 1, 0.5)
-        if self.view.documents:
+        if self.some_documents():
             steps += (self.change, self.replace, self.close, self.save)
             weights += (8, 4, 4, 2)
         self.chance.choices(steps, weights)[0]()
@@ -172,8 +178,12 @@ class Session:
         versions = {uri: (version, view.name_of(path)) for path, (uri, version, _) in view.documents.items()}
         self.states.append((view.sources(), versions))
 
+    def some_documents(self):
+        """The paths of the documents that are edited, saved and closed."""
+        return sorted({*self.view.documents} - {self.at(PROBE)})
+
     def some_document(self):
-        return self.chance.choice(sorted(self.view.documents))
+        return self.chance.choice(self.some_documents())
 
     def spelled(self, path):
         """A URI of a file: by the link or the real path, and some with an escape that no one needs."""
