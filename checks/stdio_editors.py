@@ -9,7 +9,7 @@ import subprocess
 
 from messages import bodies_of, frame
 from server_process import LONGEST, check
-from stdio_client import LOOSE, PULL, Editor, softened
+from stdio_client import LOOSE, PULL, Editor, shown_by_rights, softened
 
 FOLDER = os.path.join(os.path.dirname(os.path.realpath(__file__)), "transcripts")
 
@@ -66,6 +66,43 @@ def as_eglot_wrote(place):
 def as_neovim_wrote(place):
     """The same of what neovim 0.7.2 wrote, with changes by ranges."""
     played(place, "neovim-0.7.2.in")
+
+
+def offset(text, position):
+    """The place of a position in a text. One past the end of the text, or of its line, is that end."""
+    lines = text.split("\n")
+    if position["line"] >= len(lines):
+        return len(text)
+    before = lines[position["line"]].encode("utf-16-le")[:2 * position["character"]].decode("utf-16-le", errors="ignore")
+    return sum(len(line) + 1 for line in lines[:position["line"]]) + len(before)
+
+
+def as_neovim_replaced(place):
+    """What neovim 0.7.2 wrote when a whole text was replaced, with ranges past its end, leaves the text that is right of cut ranges."""
+    frames, _, uris = written("neovim-0.7.2-replaced.in")
+    editor, text = Editor(place.program, *place.workers, begins=False), None
+    editor.next = 1000000
+    for sent in frames:
+        editor.send(sent)
+        params = json.loads(bodies_of(sent)[0]).get("params") or {}
+        text = params.get("textDocument", {}).get("text", text)
+        for change in params.get("contentChanges", ()):
+            start, end = (offset(text, change["range"][name]) for name in ("start", "end"))
+            text = text[:start] + change["text"] + text[end:]
+        version = params.get("textDocument", {}).get("version")
+    editor.wait_for(lambda: any(it.get("version") == version for it in editor.lists(None, uris[0])), "the list of version %d" % version)
+    right = shown_by_rights(place.program, {"a.proto": text})["a.proto"]
+    editor.expect(None, right, "the last list", uri=uris[0])
+    for wanted in (right, shown_by_rights(place.program, {"a.proto": text + "\nmessage { }"})["a.proto"]):
+        found = editor.ask(PULL, {"textDocument": {"uri": uris[0]}})
+        check(found.get("items"), wanted, "the list that is asked for of %r" % text)
+        # What is appended shows where the text of the server ends.
+        end = {"line": text.count("\n"), "character": len(text.split("\n")[-1])}
+        change = {"range": {"start": end, "end": end}, "text": "\nmessage { }"}
+        editor.versions[uris[0]] = version
+        editor.change(None, change, uri=uris[0])
+        text, version = text + change["text"], version + 1
+    editor.end(["pq_server: /proj: No such file or directory (os error 2)"])
 
 
 def as_lsp_mode_wrote(place):
