@@ -1,12 +1,16 @@
 """Rows of `checks/stdio.py`: how a session begins and ends, with its status and its lines of standard error."""
+import fcntl
 import os
 import select
 import subprocess
+import sys
+import termios
+import threading
 import time
 
 from messages import frame
 from server_process import LONGEST, SERVERS, Failed, check, uri_of
-from stdio_client import Editor
+from stdio_client import PIPE, Editor
 from stdio_files import rooted
 from stdio_lists import BAD, GOOD, HEAD, at, begun
 
@@ -136,6 +140,19 @@ class Raw:
     def document(self, path, text):
         return {"textDocument": {"uri": uri_of(path), "languageId": "proto", "version": 1, "text": text}}
 
+    def read_on(self):
+        """Reads what comes from now on, and throws it away. A thread does it until the end."""
+        threading.Thread(target=lambda: [None for _ in iter(lambda: os.read(self.source, 65536), b"")], daemon=True).start()
+
+    def wait_until_full(self):
+        """Waits until the pipe of the output is as good as full."""
+        end, there = time.monotonic() + LONGEST, bytes(4)
+        while int.from_bytes(there, sys.byteorder) < PIPE:
+            if time.monotonic() > end:
+                raise Failed("the server writes too little to fill a pipe")
+            time.sleep(0.02)
+            there = fcntl.ioctl(self.source, termios.FIONREAD, bytes(4))
+
     def wait_for_bytes(self, wanted):
         """Reads until these bytes came."""
         end, found = time.monotonic() + LONGEST, b""
@@ -188,10 +205,10 @@ def exit_while_busy(place):
 def shutdown_while_busy(place):
     """After `shutdown` and `exit` the session ends within two seconds, though a dear list is being made."""
     raw = busy(place)
+    raw.read_on()
     raw.send("shutdown", None, id=2)
     raw.send("exit", None)
     ends_soon(raw.server, 0, [], "after shutdown and exit")
-    os.close(raw.source)
 
 
 def reply_while_busy(place):
@@ -213,6 +230,17 @@ def end_of_input_while_busy(place):
     raw.server.stdin.close()
     ends_soon(raw.server, 1, [], "at the end of the input")
     os.close(raw.source)
+
+
+def ends_while_unread(place):
+    """At `exit`, and at the end of the input, the session ends within two seconds, though a list waits for room in the output."""
+    for what, end in (("after exit", lambda raw: raw.send("exit", None)), ("at the end of the input", lambda raw: raw.server.stdin.close())):
+        raw = Raw(place)
+        raw.send("textDocument/didOpen", raw.document(at(place, "a.proto"), BAD + 3000 * "message M { int32 x = 0; }\n"))
+        raw.wait_until_full()
+        end(raw)
+        ends_soon(raw.server, 1, [], what)
+        os.close(raw.source)
 
 
 def failed_write_while_busy(place):
@@ -240,6 +268,24 @@ def roots_that_are_not_there(place):
     editor.open(path, BAD)
     editor.expect_codes(path, "P120", "a document below the other root")
     editor.end((at(place, "nowhere"),))
+
+
+def ends_at_any_moment(place):
+    """A session whose lists are being made ends in order, whenever `shutdown` and `exit` come, and `shutdown` is answered."""
+    text = HEAD + "".join("message M%d { M%d m = 1; Z z = 2; }\n" % (n, n + 1) for n in range(300))
+    last = frame({"jsonrpc": "2.0", "id": 1000, "method": "shutdown"}) + frame({"jsonrpc": "2.0", "method": "exit"})
+    for turn in range(30):
+        editor = begun(place)
+        for n in range(5):
+            editor.open(at(place, "%d.proto" % n), text)
+        if turn % 3 == 0:
+            editor.be_read()
+        if turn % 3 == 1:
+            editor.change(at(place, "0.proto"), text + BAD)
+        time.sleep(turn % 10 * 0.003)
+        editor.send(last)
+        left(editor, 0)
+        check("result" in editor.replies.get(1000, {}), True, "shutdown is answered in turn %d" % turn)
 
 
 def requests_before_the_end(place):
