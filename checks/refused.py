@@ -12,6 +12,7 @@ call, and in the copy that growth alone is refused. Each copy has to write the l
 `Memory` is made again by the program. A growth that only makes a call faster may be refused with no answer `Memory`.
 Before `publish`, `publish_ring`, `post_step` and `carry_one` are made again, the program compares the state with that before the call:
 all memos and what came back, the store, and that the client of the carry is closed. A request whose run was starved is made again.
+Before a change of a view and `see` are made again, it compares what the view and the look answer with their answers before the call.
 
 It shows nothing of calls that the program does not make, nor of two growths refused in one call. A copy has one thread.
 So whole programs are tried too: every stored session, in which several growths can be refused, and `listen`.
@@ -29,6 +30,8 @@ Wrong bodies that were tried, each caught:
 - `publish_ring` hands back a member too few where it gets no room for the ring: 22 copies write what the refusal left.
 - `carry_one` leaves its client open after `Memory`: 106 copies write `the client is open`.
 - `run_step` says of a run that it starves that it was over: 124 copies write `over`, and that the reply is a starved one.
+- `set_document` copies its edits after the document is in the view: 7 copies write what the refusal left, and then no edits.
+- `see` forgets what it saw of the file before it has room for the path: 3 copies write what the refusal left.
 
 usage: checks/refused.py                        the calls
        checks/refused.py --each                 the calls, and of each line of the program how many growths were refused
