@@ -158,7 +158,9 @@ where
             self.has_renamed = false;
             files.name_documents()?;
         }
-        let asked = files.documents.asked(|name: &str| self.known.contains(name))?;
+        let asked = files
+            .documents
+            .asked(|name: &str| self.known.contains(name))?;
         Ok(Some(Round {
             revision: self.revision,
             asked,

@@ -6,14 +6,12 @@ use crate::library::{Failure, is_folder, joined};
 use pq_inputs::MAX_TEXT;
 use pq_view::Stamp;
 use std::alloc::Global;
-use std::fs;
 use std::fs::{Metadata, OpenFile};
-use std::io;
 use std::io::{ErrorKind, Read};
 use std::os::unix::fs::MetadataExt;
-use std::path;
 use std::rt::{Clock, Env, Files};
 use std::time::SystemTime;
+use std::{fs, io, path};
 
 /// What a folder has.
 #[derive(Drop)]

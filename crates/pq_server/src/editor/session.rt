@@ -80,9 +80,10 @@ where
 {
     let (ends, ended) = crossbeam_channel::bounded(alloc, 8)?;
     let host = *rt;
-    match thread::spawn(rt, move || serve_beside(
-        &host, alloc, input, output, setup, &gate, ends,
-    )) {
+    match thread::spawn(
+        rt,
+        move || serve_beside(&host, alloc, input, output, setup, &gate, ends),
+    ) {
         Ok(_) => {}
         Err(_) => return Err(ScriptFault::Memory),
     }
@@ -291,17 +292,7 @@ where
     let desk = Mutex::new(desk);
     let clients = Clients { editor, pushing };
     run_threads(
-        rt,
-        alloc,
-        floor,
-        clients,
-        &desk,
-        heard,
-        &rounds,
-        &output,
-        &files,
-        input,
-        ends,
+        rt, alloc, floor, clients, &desk, heard, &rounds, &output, &files, input, ends,
     )
 }
 
@@ -390,31 +381,34 @@ where
         calls,
         lines,
     } = heard;
-    let writes = scope.spawn(move || {
-        let written = write_all_replies(rt, alloc, floor, editor, take, owed, files, output);
-        warned(rt, ends, written)
-    })
-    .ok();
-    let pushes = scope.spawn(move || {
-        let pushed = push_all(
-            rt,
-            alloc,
-            floor,
-            editor,
-            pushing_line,
-            pushing_take,
-            rounds,
-            output,
-            bell,
-        );
-        warned(rt, ends, pushed)
-    })
-    .ok();
-    let looks = scope.spawn(move || {
-        let looked = look_all(rt, alloc, desk, lines, calls);
-        warned(rt, ends, looked)
-    })
-    .ok();
+    let writes = scope
+        .spawn(move || {
+            let written = write_all_replies(rt, alloc, floor, editor, take, owed, files, output);
+            warned(rt, ends, written)
+        })
+        .ok();
+    let pushes = scope
+        .spawn(move || {
+            let pushed = push_all(
+                rt,
+                alloc,
+                floor,
+                editor,
+                pushing_line,
+                pushing_take,
+                rounds,
+                output,
+                bell,
+            );
+            warned(rt, ends, pushed)
+        })
+        .ok();
+    let looks = scope
+        .spawn(move || {
+            let looked = look_all(rt, alloc, desk, lines, calls);
+            warned(rt, ends, looked)
+        })
+        .ok();
     let read = if writes.is_some() && pushes.is_some() && looks.is_some() {
         read_all_messages(rt, desk, input)
     } else {
@@ -445,11 +439,7 @@ fn outcome_of<R: Threads>(
 }
 
 /// What a thread came to: an error is said on `ends`, since the reader may wait for its input.
-fn warned<R: Wait>(
-    rt: &R,
-    ends: &Ends,
-    done: Result<(), ScriptFault>,
-) -> Result<(), ScriptFault> {
+fn warned<R: Wait>(rt: &R, ends: &Ends, done: Result<(), ScriptFault>) -> Result<(), ScriptFault> {
     if let Err(fault) = done {
         let _ = ends.try_send(rt, End::Soon(Err(fault)));
     }
