@@ -154,9 +154,9 @@ abbrev pub list_of : {M : Type 0} → ReplyView ProtoKey ProtoValue M → Option
 list_of reply = option_map (λ d. record { revision = reply.revision; text = shown_list d }) (answered_diagnostics reply)
 
 -- `shown_or_text uri reply answered place` is the text of `reply`, where `answered` is the diagnostics
--- and `place` the location that it answers: diagnostics are shown, and a location is in the file of
--- `uri`. The text of any other reply has no URI, so it is the same for each root (the law
--- `located_as_it_is`), and that of the empty root is taken.
+-- and `place` the location that it answers. Diagnostics are as they are shown. A location is in the
+-- file of `uri`. Any other text has no URI: it is the same for each root (the law
+-- `located_as_it_is`), so it is that of the empty root.
 abbrev pub shown_or_text : {M : Type 0} → List ℕ → ReplyView ProtoKey ProtoValue M → Option Diagnosed → Option Location → List ℕ
 shown_or_text uri reply (Some d) place = shown_text (label_model reply.request.label) (has_unread d.diagnostics) d reply.revision
 shown_or_text uri reply None (Some l) = located_text (label_model reply.request.label) uri l
@@ -213,8 +213,8 @@ is_last last text version = elim last.text [ None ↦ false | Some sent ↦ byte
 abbrev pub is_current : LastView → ListView → Bool
 is_current last list = nat_le last.revision list.revision
 
--- `is_news last list version` is whether `list`, for the document at `version`, is to be sent: it is
--- not older than the last one that was taken, and its text or the version is not the one that was
+-- `is_news last list version` is whether `list`, for the document at `version`, is to be sent. Then it
+-- is not older than the last one that was taken, and its text or the version is not the one that was
 -- sent last.
 abbrev pub is_news : LastView → ListView → Option ℤ → Bool
 is_news last list version = is_current last list && not (is_last last list.text version)

@@ -4,8 +4,9 @@
 //! editors send a range that ends past the last line. Such a range is cut: a position past the last
 //! line is the end of the text, and an end before its start is its start.
 //!
-//! Changes that all fit are made at once, in time linear in the text. Else each change is made after
-//! the other, and each costs a pass over the text: so only `MOST` of them are made.
+//! Changes that all fit are made by `apply` of `pq_lex`, in time linear in the text and the changes.
+//! Else they are made one after the other, and each costs a pass over the text. So an input may not
+//! ask for more than `MOST` of these.
 ghost use Rattle.std.specs.Prelude.{◌≡◌, ◌⊎◌, ◌<◌, length, Some, None, option_map, string_bytes, IfOk, IfErr};
 ghost use Rattle.std.specs.String.Boundary.{IsSplitPoint};
 ghost use Rattle.pq_core.specs.Bodies.{body_view};
