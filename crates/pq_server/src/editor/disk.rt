@@ -44,7 +44,8 @@ pub(crate) trait Disk {
     /// What the folder `path` has.
     fn list(&self, path: &str) -> Result<Listing, Failure>;
 
-    /// The text of the file at `path`. `None` if no file is there. It waits where a pipe is there.
+    /// The text of the file at `path`. `None` if no file is there. It waits where a pipe takes its place
+    /// before it is opened.
     fn text_at(&self, path: &str) -> Result<Option<String>, Failure>;
 
     /// The seconds since 1970, by the clock of the system.
@@ -88,6 +89,9 @@ impl<R: Files + Env + Clock + AllocGlobal + Clone + Drop> Disk for R {
     }
 
     fn text_at(&self, path: &str) -> Result<Option<String>, Failure> {
+        if self.file_at(path).is_none() {
+            return Ok(None);
+        }
         match text_of(self, path) {
             // It was deleted since.
             Err(Failure::System(error)) if error.kind() == ErrorKind::NotFound => Ok(None),

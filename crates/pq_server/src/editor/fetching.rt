@@ -1,8 +1,9 @@
 //! Texts of files, read by a thread that may hang.
 //!
 //! A pipe can take the place of a file between a look at it and its opening, and a network can go away.
-//! So each list of files is read by a thread of its own, and who waits for it waits for each file a
-//! second at most. A thread that hangs is left to itself.
+//! So each list of files is read by a thread of its own, and who waits for it waits for each file two
+//! seconds at most. A thread that hangs is left to itself, and nothing is told of its file: it is to be
+//! read again later.
 use crate::editor::disk::Disk;
 use crate::editor::lines::Lines;
 use crate::library::Failure;
@@ -11,17 +12,17 @@ use pq_session::Memory;
 use pq_view::Text;
 use std::alloc::Global;
 use std::sync::Wait;
-use std::thread;
 use std::thread::Threads;
 use std::time::{Clock, Duration};
+use std::{mem, thread};
 
 /// How long a file is waited for, in milliseconds.
-const PATIENCE: u64 = 1000;
+const PATIENCE: u64 = 2000;
 
 /// The texts that may wait to be taken.
 const ROOM: usize = 64;
 
-/// The most threads that are left to themselves.
+/// The most threads that are left to themselves. After them no file is read.
 const MOST_HUNG: u8 = 8;
 
 /// A file that was read.
@@ -46,6 +47,8 @@ pub(crate) struct Fetcher {
     alloc: Global,
     lines: Lines,
     hung: u8,
+    /// The files that are to be read again later.
+    later: Vec<Text>,
 }
 
 impl Fetcher {
@@ -55,46 +58,52 @@ impl Fetcher {
             alloc,
             lines,
             hung: 0,
+            later: Vec::new(alloc),
         }
     }
 
-    /// The files at `paths`, in their order. A file that cannot be read leaves a line.
+    /// Takes the files that are to be read again later.
+    pub(crate) fn take_later(&mut self) -> Vec<Text> {
+        mem::replace(&mut self.later, Vec::new(self.alloc))
+    }
+
+    /// The files at `paths`, in their order, but for those that hang. A file that cannot be read leaves a
+    /// line.
     pub(crate) fn fetch<H>(&mut self, rt: &H, paths: Vec<Text>) -> Result<Vec<Fetched>, Memory>
     where
         H: Threads + Wait + Clock + Disk + AllocGlobal + Copy + Drop + Send + Sync + 'static,
     {
         let mut fetched = Vec::new(self.alloc);
+        let mut start = 0;
         for _ in 0..=paths.len() {
-            if fetched.len() >= paths.len() {
+            if start >= paths.len() || self.hung >= MOST_HUNG {
                 break;
             }
-            self.fetch_on(rt, &paths, &mut fetched)?;
+            start = self.fetch_on(rt, &paths, start, &mut fetched)?;
+        }
+        for path in paths.iter().skip(start) {
+            self.later.push(path.copy()?)?;
         }
         Ok(fetched)
     }
 
-    /// Reads the files of `paths` that are not yet among `fetched`, up to one that hangs.
+    /// Reads the files of `paths` from the index `start` on, up to one that hangs. Returns the index after
+    /// the last of them.
     fn fetch_on<H>(
         &mut self,
         rt: &H,
         paths: &[Text],
+        start: usize,
         fetched: &mut Vec<Fetched>,
-    ) -> Result<(), Memory>
+    ) -> Result<usize, Memory>
     where
         H: Threads + Wait + Clock + Disk + AllocGlobal + Copy + Drop + Send + Sync + 'static,
     {
-        let start = fetched.len();
-        let came = if self.hung < MOST_HUNG {
-            Some(begin(rt, copies(self.alloc, paths, start)?)?)
-        } else {
-            None
-        };
+        let came = begin(rt, copies(self.alloc, paths, start)?)?;
+        let mut next = start;
         for path in paths.iter().skip(start) {
+            next = next.saturating_add(1);
             let path = path.copy()?;
-            let Some(came) = &came else {
-                fetched.push(Fetched { path, text: None })?;
-                continue;
-            };
             match came.recv_timeout(rt, Duration::from_millis(PATIENCE)) {
                 Ok(got) => {
                     let text = self.text_in(rt, path.as_str(), got)?;
@@ -104,12 +113,12 @@ impl Fetcher {
                     self.hung = self.hung.saturating_add(1);
                     self.lines
                         .say_passed_over(rt, path.as_str(), &Failure::Hangs);
-                    fetched.push(Fetched { path, text: None })?;
-                    return Ok(());
+                    self.later.push(path)?;
+                    break;
                 }
             }
         }
-        Ok(())
+        Ok(next)
     }
 
     /// The text of the file at `path` that came. Why there is none is said.
@@ -123,6 +132,14 @@ impl Fetcher {
             }
         }
     }
+}
+
+/// The paths of `paths`, each once, in byte order.
+pub(crate) fn each_once(paths: Vec<Text>) -> Result<Vec<Text>, Memory> {
+    let mut paths = paths;
+    paths.sort()?;
+    paths.dedup();
+    Ok(paths)
 }
 
 /// Copies of `paths` from the index `start` on.

@@ -7,6 +7,7 @@ use crate::serving::floor::Places;
 use pq_session::{Memory, Root};
 use pq_view::{Text, View, shown_path};
 use std::alloc::Global;
+use std::mem;
 use std::sync::{Mutex, Wait};
 
 /// The files of a session.
@@ -15,6 +16,9 @@ pub(crate) struct Files {
     pub(crate) alloc: Global,
     pub(crate) view: View,
     pub(crate) documents: Documents,
+    /// The paths of files that were read beside the looks: the next look has them read again, whether it
+    /// finds them new or not.
+    pub(crate) touched: Vec<Text>,
     /// The paths of the roots, with all links followed.
     pub(crate) roots: Vec<Text>,
     /// The paths of the roots as the editor or the command line writes them, in the same order.
@@ -28,6 +32,7 @@ impl Files {
             alloc,
             view: View::new(alloc),
             documents: Documents::new(alloc),
+            touched: Vec::new(alloc),
             roots: Vec::new(alloc),
             faces: Vec::new(alloc),
         }
@@ -42,6 +47,19 @@ impl Files {
         }
         let shown = shown_path(self.alloc, &self.roots, &self.faces, path.as_str())?;
         Root::at(self.alloc, "")?.uri_of(self.alloc, shown.as_str())
+    }
+
+    /// Takes the paths that are to be read again.
+    pub(crate) fn take_touched(&mut self) -> Vec<Text> {
+        mem::replace(&mut self.touched, Vec::new(self.alloc))
+    }
+
+    /// Adds copies of `paths` to those that are to be read again.
+    pub(crate) fn touch(&mut self, paths: &[Text]) -> Result<(), Memory> {
+        for path in paths {
+            self.touched.push(path.copy()?)?;
+        }
+        Ok(())
     }
 
     /// Gives each document the name by which its diagnostics are asked.

@@ -4,12 +4,14 @@
 //! lock. A file that was changed since is read again at the next look.
 use crate::editor::desk::Desk;
 use crate::editor::disk::Disk;
-use crate::editor::fetching::{Fetched, Fetcher};
+use crate::editor::fetching::{Fetched, Fetcher, each_once};
+use crate::editor::files::Files;
 use crate::editor::lines::Lines;
-use crate::editor::watching::Watch;
+use crate::editor::watching::{News, Watch};
 use crate::serving::floor::Floor;
 use crossbeam_channel::Receiver;
-use pq_session::ScriptFault;
+use pq_session::{Memory, ScriptFault};
+use pq_view::Text;
 use std::alloc::Global;
 use std::io::Write;
 use std::sync::{Mutex, Wait};
@@ -40,6 +42,7 @@ pub(crate) enum Call {
 struct Looker<'a, 'b, F: Floor<H>, H, W> {
     rt: &'a H,
     desk: &'a Mutex<Desk<'b, F, H, W>>,
+    files: &'a Mutex<Files>,
     lines: Lines,
     fetcher: Fetcher,
     watch: Option<Watch>,
@@ -56,15 +59,19 @@ where
         let Some(watch) = &mut self.watch else {
             return Ok(true);
         };
-        let news = watch.look(self.rt)?;
-        for it in &news.passed_over {
+        let touched = self.files.lock(self.rt).take_touched();
+        let News { paths, passed_over } = watch.look(self.rt)?;
+        for it in &passed_over {
             self.lines
                 .say_passed_over(self.rt, it.path.as_str(), &it.failure);
         }
-        if news.paths.is_empty() {
+        let paths = both(paths, touched)?;
+        if paths.is_empty() {
             return Ok(true);
         }
-        let fetched = self.fetcher.fetch(self.rt, news.paths)?;
+        let fetched = self.fetcher.fetch(self.rt, paths)?;
+        let later = self.fetcher.take_later();
+        self.files.lock(self.rt).touch(&later)?;
         self.tell(fetched)
     }
 
@@ -101,11 +108,20 @@ where
     }
 }
 
+/// The paths of `news` and of `touched`, each once.
+fn both(news: Vec<Text>, touched: Vec<Text>) -> Result<Vec<Text>, Memory> {
+    let mut paths = news;
+    let mut touched = touched;
+    paths.append(&mut touched)?;
+    each_once(paths)
+}
+
 /// Looks at the disk until the desk ends it. An error ends it, too.
 pub(crate) fn look_all<F, H, W>(
     rt: &H,
     alloc: Global,
     desk: &Mutex<Desk<'_, F, H, W>>,
+    files: &Mutex<Files>,
     lines: Lines,
     calls: Receiver<Call>,
 ) -> Result<(), ScriptFault>
@@ -118,6 +134,7 @@ where
     let mut looker = Looker {
         rt,
         desk,
+        files,
         lines,
         fetcher,
         watch: None,

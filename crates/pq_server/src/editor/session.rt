@@ -405,7 +405,7 @@ where
         .ok();
     let looks = scope
         .spawn(move || {
-            let looked = look_all(rt, alloc, desk, lines, calls);
+            let looked = look_all(rt, alloc, desk, files, lines, calls);
             warned(rt, ends, looked)
         })
         .ok();

@@ -2,7 +2,7 @@
 use crate::editor::desk::{Desk, Step, step_of};
 use crate::editor::disk::Disk;
 use crate::editor::documents::Document;
-use crate::editor::fetching::Fetched;
+use crate::editor::fetching::{Fetched, each_once};
 use crate::editor::line::Handed;
 use crate::library::{Failure, joined};
 use crate::serving::floor::Floor;
@@ -81,7 +81,7 @@ where
         body: Body,
     ) -> Result<bool, ScriptFault> {
         let Some(document) = self.files.lock(self.rt).documents.take(face) else {
-            self.lines.say_failure(self.rt, face, &Failure::NotOpen);
+            self.lines.say_passed_over(self.rt, face, &Failure::NotOpen);
             return Ok(true);
         };
         let mut document = document;
@@ -222,11 +222,16 @@ where
 
     /// Reads the files at `paths` again, and has the looker look. Returns whether the session goes on.
     fn read_again(&mut self, paths: Vec<Text>) -> Result<bool, ScriptFault> {
-        self.call_looker();
+        let paths = each_once(paths)?;
         if paths.is_empty() {
+            self.call_looker();
             return Ok(true);
         }
-        for it in self.fetcher.fetch(self.rt, paths)? {
+        // A file that is gone before the next look is not known to it.
+        self.files.lock(self.rt).touch(&paths)?;
+        let fetched = self.fetcher.fetch(self.rt, paths)?;
+        self.call_looker();
+        for it in fetched {
             if !self.set_on_disk(it)? {
                 return Ok(false);
             }

@@ -58,6 +58,8 @@ where
                 .say_passed_over(self.rt, it.path.as_str(), &it.failure);
         }
         let fetched = self.fetcher.fetch(self.rt, news.paths)?;
+        let later = self.fetcher.take_later();
+        self.files.lock(self.rt).touch(&later)?;
         for it in fetched {
             if !self.set_on_disk(it)? {
                 return Ok(false);
