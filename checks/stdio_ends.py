@@ -73,15 +73,6 @@ def frame_errors(place):
         left(editor, 2, line)
 
 
-def bad_ranges(place):
-    """A change with a range whose end is before its start ends the session with status 3."""
-    editor, path = begun(place), at(place, "a.proto")
-    editor.open(path, GOOD)
-    start, end = {"line": 1, "character": 4}, {"line": 0, "character": 2}
-    editor.change(path, {"range": {"start": start, "end": end}, "text": "x"})
-    left(editor, 3, "pq_server: bad range")
-
-
 def unreadable_edits(place):
     """An edit of unreadable parameters ends the session with status 3."""
     editor = begun(place)

@@ -35,7 +35,7 @@ def span(*places):
 
 
 def ranges_past_the_end(place):
-    """A range that reaches past the end of the text is cut to it, and the session goes on."""
+    """A range that reaches past the end of the text, or ends before its start, is cut, and the session goes on."""
     text = BAD + "message N { Z z = 1; }\n"
     lines = text.count("\n")
     cases = ((span(0, 0, lines + 1, 0), "", ""),
@@ -44,7 +44,9 @@ def ranges_past_the_end(place):
              (span(2, 0, lines + 5, 7), "", BAD),
              (span(lines + 1, 0, lines + 1, 0), "message Q { Z z = 1; }\n", text + "message Q { Z z = 1; }\n"),
              (span(lines + 9, 4, 2 ** 31 - 1, 0), "message Q { Z z = 1; }", text + "message Q { Z z = 1; }"),
-             (span(1, 2000, 1, 3000), " message Q { Z z = 1; }", text.replace("\nmessage N", " message Q { Z z = 1; }\nmessage N")))
+             (span(1, 2000, 1, 3000), " message Q { Z z = 1; }", text.replace("\nmessage N", " message Q { Z z = 1; }\nmessage N")),
+             # An end before its start is its start.
+             (span(2, 0, 1, 3), "message Q { Z z = 1; }\n", text.replace("message N", "message Q { Z z = 1; }\nmessage N")))
     editor = begun(place)
     for number, (range_, new, wanted) in enumerate(cases):
         path = at(place, "%d.proto" % number)

@@ -103,15 +103,25 @@ impl Watch {
             return Ok(());
         };
         look.folders.see(folder.as_str(), stamp, look.now)?;
-        let known = self.listings.remove(folder.as_str());
-        let listing = match known {
-            Some(known) if !look.folders.is_news(&self.folders, folder.as_str()) => Some(known),
-            _ => look.list(disk, self.alloc, folder.as_str())?,
-        };
-        match listing {
+        match self.listing_of(disk, look, folder.as_str())? {
             Some(listing) => look.add(disk, self.alloc, folder, listing),
             None => Ok(()),
         }
+    }
+
+    /// What `folder` has. It is listed again only if it is news.
+    fn listing_of<D: Disk>(
+        &mut self,
+        disk: &D,
+        look: &mut Look,
+        folder: &str,
+    ) -> Result<Option<Listing>, Memory> {
+        if !look.folders.is_news(&self.folders, folder) {
+            if let Some(known) = self.listings.remove(folder) {
+                return Ok(Some(known));
+            }
+        }
+        look.list(disk, self.alloc, folder)
     }
 
     /// What the last look saw of the file at `path`.

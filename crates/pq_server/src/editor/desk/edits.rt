@@ -152,27 +152,37 @@ where
 
     /// Does what a notification asks for that makes no edit of its own.
     pub(super) fn notice(&mut self, event: Event) -> Result<Step, ScriptFault> {
-        let goes_on = match event {
+        match event {
             Event::Ready => {
                 self.is_ready = true;
-                true
+                Ok(Step::GoesOn)
             }
-            Event::Closes { uri } => self.close(uri.as_str())?,
+            Event::Closes { uri } => {
+                let goes_on = self.close(uri.as_str())?;
+                Ok(step_of(goes_on))
+            }
             Event::Saves { uri } => {
                 let mut paths = Vec::new(self.alloc);
                 self.push_path(&mut paths, uri.as_str())?;
-                self.read_again(paths)?
+                let goes_on = self.read_again(paths)?;
+                Ok(step_of(goes_on))
             }
             Event::Touches(uris) => {
-                let mut paths = Vec::new(self.alloc);
-                for uri in &uris {
-                    self.push_path(&mut paths, uri.as_str())?;
-                }
-                self.read_again(paths)?
+                let paths = self.paths_of(uris.as_slice())?;
+                let goes_on = self.read_again(paths)?;
+                Ok(step_of(goes_on))
             }
-            _ => true,
-        };
-        Ok(step_of(goes_on))
+            _ => Ok(Step::GoesOn),
+        }
+    }
+
+    /// The paths of `uris` that can be those of files below a root.
+    fn paths_of(&self, uris: &[String]) -> Result<Vec<Text>, Memory> {
+        let mut paths = Vec::new(self.alloc);
+        for uri in uris {
+            self.push_path(&mut paths, uri.as_str())?;
+        }
+        Ok(paths)
     }
 
     /// Closes the document of `uri`: its file has the text on the disk again, or is absent. Returns
