@@ -82,7 +82,7 @@ STEPS = {
     "close b": without("Part"),
     # b.proto is opened again, `Item` is replaced by `Part`, and it is saved and closed.
     "save b": [TWICE],
-    # Another program writes B to b.proto. Only clients that watch the disk tell the server.
+    # Another program writes B to b.proto. Some clients tell the server, which sees it by itself too.
     "write b": without("Part"),
 }
 WATCHED = ["write b"]
@@ -173,7 +173,8 @@ class InTerminal(Client):
 
 
 class Neovim(Client):
-    name = "neovim"
+    # It watches nothing, and the server sees the disk by itself.
+    name, steps = "neovim", list(STEPS)
 
     def version(self):
         return first(r"NVIM v(\S+)", printed_by("nvim", "--version"))

@@ -158,9 +158,7 @@ where
             self.has_renamed = false;
             files.name_documents()?;
         }
-        let asked = files
-            .documents
-            .asked(|name: &str| self.known.contains(name))?;
+        let asked = files.documents.asked(&self.known)?;
         Ok(Some(Round {
             revision: self.revision,
             asked,

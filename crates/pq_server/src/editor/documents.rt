@@ -4,6 +4,7 @@ use pq_inputs::MAX_TEXT;
 use pq_session::Memory;
 use pq_view::{Owed, Text};
 use std::alloc::Global;
+use std::collections::BTreeSet;
 
 /// A document that an editor has open.
 #[derive(Drop)]
@@ -100,11 +101,11 @@ impl Documents {
     }
 
     /// The documents whose diagnostics are asked for: those whose texts are short enough and whose names
-    /// `is_known` holds for.
-    pub(crate) fn asked<P: Fn(&str) -> bool>(&self, is_known: P) -> Result<Vec<Asked>, Memory> {
+    /// are among `known`.
+    pub(crate) fn asked(&self, known: &BTreeSet<String>) -> Result<Vec<Asked>, Memory> {
         let mut asked = Vec::new(self.alloc);
         for document in &self.list {
-            if document.has_room() && is_known(document.name.as_str()) {
+            if document.has_room() && known.contains(document.name.as_str()) {
                 asked.push(asked_of(self.alloc, document)?)?;
             }
         }

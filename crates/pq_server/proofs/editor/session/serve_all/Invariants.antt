@@ -1,4 +1,4 @@
-use Rattle.pq_server.proofs.editor.session.serve_editor.Given as goal
+use Rattle.pq_server.proofs.editor.session.serve_all.Given as goal
 
 -- the vector that was just made
 abbrev pub ghosts-serve_in : goal.ghosts-serve_in
