@@ -24,21 +24,6 @@ impl Reading for Strict {
     }
 }
 
-/// The reading of a folder that changes: it passes over what it cannot read.
-#[derive(Clone, Copy, Debug)]
-pub(crate) struct Tolerant;
-
-impl Reading for Tolerant {
-    type Fault = AllocError;
-
-    fn after(&self, failure: Failure) -> Result<(), AllocError> {
-        if failure.is_memory() {
-            return Err(AllocError);
-        }
-        Ok(())
-    }
-}
-
 /// Passes over what is at `path`, where `reading` goes on after `failure`. The failure leaves its
 /// line.
 pub(crate) fn pass_over<R: Eprint, T: Reading>(
