@@ -1,7 +1,7 @@
 //! What an editor's messages and the disk ask for, done in the order in which they come.
 //!
-//! Which text a name has is decided by the view (`pq_view`): the desk tells it what happened, and makes
-//! the edits that it answers. The texts of open documents are of Low durability, those on the disk of
+//! The view (`pq_view`) decides which text a name has: the desk passes each event to it, and makes the
+//! edits that it answers. The texts of open documents are of Low durability, those on the disk of
 //! High durability. `greeting` takes the roots, `edits` handles documents and files, and `asks` hands in
 //! requests. The reader and the looker share the desk under its lock.
 mod asks;

@@ -2,7 +2,7 @@
 //!
 //! A pipe can take the place of a file between a look at it and its opening, and a network can go away.
 //! So each list of files is read by a thread of its own, and who waits for it waits for each file two
-//! seconds at most. A thread that hangs is left to itself, and nothing is told of its file: it is to be
+//! seconds at most. A thread that hangs is left to itself. Its file keeps the text that it had, and is
 //! read again later.
 use crate::editor::disk::Disk;
 use crate::editor::lines::Lines;

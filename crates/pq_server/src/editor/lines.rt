@@ -22,7 +22,7 @@ const LONGEST: usize = 1000;
 /// How long the program waits at its end for the lines, in milliseconds.
 const PATIENCE: u64 = 50;
 
-/// What the thread that writes is told.
+/// What is sent to the thread that writes.
 #[derive(Drop)]
 enum Said {
     /// A line, with its end.

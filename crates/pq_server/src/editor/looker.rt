@@ -25,7 +25,7 @@ const BETWEEN: u64 = 1500;
 /// The shortest time between two looks, in milliseconds.
 const PAUSE: u64 = 50;
 
-/// The files that are told of under one hold of the desk's lock.
+/// The files that the looker hands to the desk under one hold of its lock.
 const AT_ONCE: usize = 32;
 
 /// What the looker is called for.
@@ -84,7 +84,7 @@ where
         }
     }
 
-    /// Tells the desk of those files of `fetched` that were not changed since. Returns whether the session
+    /// Hands those files of `fetched` to the desk that were not changed since. Returns whether the session
     /// goes on.
     fn tell(&self, fetched: Vec<Fetched>) -> Result<bool, ScriptFault> {
         let mut fetched = fetched.into_iter();

@@ -1,4 +1,4 @@
-//! What happens to documents and files: the view is told, and its edits are made.
+//! Events of documents and files: the desk passes each to the view, and makes the edits that it answers.
 use crate::editor::desk::{Desk, Step, step_of};
 use crate::editor::disk::Disk;
 use crate::editor::documents::Document;
