@@ -168,7 +168,8 @@ class Session:
             weights += (8, 4, 4, 2)
         self.chance.choices(steps, weights)[0]()
         if self.is_told and self.has_moved:
-            # The next edits come once that is seen.
+            # The next edits come once that is seen, though no list may show it.
+            self.editor.look(self.at("real"))
             self.compare("a folder that moved")
             self.states.clear()
         self.keep_state()
@@ -341,7 +342,7 @@ class Session:
                 self.waited(lambda: self.pulled(uri_of(path)), wanted, what + "asked for while it is closed, " + self.said(path))
             for path, (uri, version, _) in sorted(view.documents.items()):
                 self.editor.expect(None, right[path], what + "pushed, " + self.said(path), uri=uri)
-                self.editor.wait_for(lambda: self.editor.lists(None, uri)[-1].get("version") == version,
+                self.editor.wait_for(lambda: (self.editor.lists(None, uri) or [{}])[-1].get("version") == version,
                                      what + "the version %d of the last list, %s" % (version, self.said(path)))
             for uri in sorted(self.uris - {uri for uri, _, _ in view.documents.values()}):
                 self.editor.expect(None, [], what + "closed, " + uri, uri=uri)

@@ -104,12 +104,13 @@ module _ {K P V M O : Type 0} (order : K → K → Ordering) (m : Machine K P V)
   edit_refusal_so b l c change (Input fault) s h = absurd h
 
 -- the inputs after a change
-pub table_is : (t b : Table) (change : ChangeView) → t.files ≡ with_file b.files change.file (file_of b.files change) → t.revision ≡ b.revision + 1 → t.history ≡ b.history ++ t.files ∷ []
+pub table_is : (t b : Table) (change : ChangeView) → t.files ≡ with_file b.files change.file (file_of b.files change) → t.revision ≡ b.revision + 1 → t.history ≡ b.history ++ t.files ∷ [] → t.limit ≡ b.limit
     → t ≡ changed b change
-table_is t b change f r h =
-    ap (λ x. record { files = x; revision = t.revision; history = t.history }) f
-    ∙ (ap (λ x. record { files = with_file b.files change.file (file_of b.files change); revision = x; history = t.history }) r
-    ∙ ap (λ x. record { files = with_file b.files change.file (file_of b.files change); revision = b.revision + 1; history = x }) (h ∙ ap (λ x. b.history ++ x ∷ []) f))
+table_is t b change f r h n =
+    ap (λ x. record { files = x; revision = t.revision; history = t.history; limit = t.limit }) f
+    ∙ (ap (λ x. record { files = with_file b.files change.file (file_of b.files change); revision = x; history = t.history; limit = t.limit }) r
+    ∙ (ap (λ x. record { files = with_file b.files change.file (file_of b.files change); revision = b.revision + 1; history = x; limit = t.limit }) (h ∙ ap (λ x. b.history ++ x ∷ []) f)
+    ∙ ap (λ x. record { files = with_file b.files change.file (file_of b.files change); revision = b.revision + 1; history = b.history ++ with_file b.files change.file (file_of b.files change) ∷ []; limit = x }) n))
 
 -- `of_body file durability body` is the change of `file` by `body`
 abbrev pub of_body : List ℕ → Durability → BodyView → ChangeView

@@ -293,7 +293,7 @@ module _ {K V M O : Type 0} (l : Ledger K V M O) (c revision : ℕ) (file : List
       after : Option (Option (List ℕ)) → Ledger K V M O
       after t =
           let files = with_file l.inputs.files file (record { text = unwrap_or t None; durability = durability }) in
-          record { inputs = record { files = files; revision = l.inputs.revision + 1; history = l.inputs.history ++ files ∷ [] }; clients = l.clients; runs = l.runs }
+          record { inputs = record { files = files; revision = l.inputs.revision + 1; history = l.inputs.history ++ files ∷ []; limit = l.inputs.limit }; clients = l.clients; runs = l.runs }
 
 pub goes_edit_as : {R K P V M : Type 0} (order : K → K → Ordering) (m : Machine K P V) (point : M → Point) (b a : StoreView R K P V M) (c revision : ℕ) (file : List ℕ) (durability : Durability) (x y : BodyView)
     → text_made b.inputs.files (of_body file durability x) ≡ text_made b.inputs.files (of_body file durability y)

@@ -185,6 +185,7 @@ changed inputs change = record {
   files = with_file inputs.files change.file (file_of inputs.files change);
   revision = inputs.revision + 1;
   history = inputs.history ++ with_file inputs.files change.file (file_of inputs.files change) ∷ [];
+  limit = inputs.limit;
 }
 
 -- `inputs_after inputs change answer` is `inputs` after an edit that answered so: `change` is made

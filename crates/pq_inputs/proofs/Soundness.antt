@@ -10,7 +10,7 @@ use Rattle.pq_inputs.specs.declared.durability.Durability.{Durability}
 use Rattle.pq_inputs.specs.Sources.{File, Sources, file_in, with_file, ChangesAt}
 use Rattle.pq_inputs.specs.Changes.{level, ChangesOfAt, IsLastChange, IsLastChangeOf}
 use Rattle.pq_inputs.specs.declared.fault.InputFault.TheVariants.{TextTooLong, TooManyFiles, RevisionsUsedUp}
-use Rattle.pq_inputs.specs.Refusal.{max_files, last_revision, is_too_long, is_full_for, refusal}
+use Rattle.pq_inputs.specs.Refusal.{most_files, last_revision, is_too_long, is_full_for, refusal}
 use Rattle.pq_inputs.specs.aux.Kept.{Entry, Entries, lookup, entry_in, with_entry, sources_of, Marks, mark_of, IsKept}
 use Rattle.pq_inputs.proofs.FileTests.{cases_bool, below_limit}
 use Rattle.pq_inputs.proofs.EntryLemmas.{sources_with, file_is, entry_after, was_set_is, length_sources, length_with_known, with_new}
@@ -18,10 +18,11 @@ use Rattle.pq_inputs.proofs.Last.{last_stays, last_moves}
 use Rattle.pq_inputs.proofs.Histories.{push_before, changes_extended, changes_of_extended, last_before, no_last_change, last_change, no_change}
 
 -- at first no file was set, and nothing changed
-pub kept_new : (marks : Marks) → ((d : Durability) → mark_of marks d ≡ 0) → IsKept [] 0 marks ([] ∷ [])
+pub kept_new : (limit : ℕ) (marks : Marks) → limit ≤ most_files → ((d : Durability) → mark_of marks d ≡ 0) → IsKept limit [] 0 marks ([] ∷ [])
 unfolding sources_of entry_in
-kept_new marks none = record {
+kept_new limit marks most none = record {
   few = omega arith;
+  limited = most;
   bounded = omega arith;
   counted = refl;
   first = refl;
@@ -31,7 +32,7 @@ kept_new marks none = record {
   of_level = λ d. rw (none d) (record { happened = λ p is. absurd (omega arith); latest = λ p after c. no_change [] c.name p c.change });
 }
 
-module _ (es : Entries) (n : ℕ) (marks : Marks) (history : List Sources) (kept : IsKept es n marks history) (name : List ℕ) (entry : Entry) where
+module _ (limit : ℕ) (es : Entries) (n : ℕ) (marks : Marks) (history : List Sources) (kept : IsKept limit es n marks history) (name : List ℕ) (entry : Entry) where
   abbrev pub after : Entries
   after = with_entry es name entry
 
@@ -40,7 +41,7 @@ module _ (es : Entries) (n : ℕ) (marks : Marks) (history : List Sources) (kept
 
   -- what all that follows takes for granted
   pub record Accepted : Type 0 where
-    pub room : length after ≤ max_files
+    pub room : length after ≤ limit
     pub below : n < last_revision
 
   -- another file stays
@@ -70,9 +71,10 @@ module _ (es : Entries) (n : ℕ) (marks : Marks) (history : List Sources) (kept
   ]
 
   -- what holds of the new history, whatever changed
-  sound : Accepted → (more : Marks) → ((q : List ℕ) → IsLastChange next q (entry_in after q).changed) → ((d : Durability) → IsLastChangeOf next d (mark_of more d)) → IsKept after (n + 1) more next
+  sound : Accepted → (more : Marks) → ((q : List ℕ) → IsLastChange next q (entry_in after q).changed) → ((d : Durability) → IsLastChangeOf next d (mark_of more d)) → IsKept limit after (n + 1) more next
   sound accepted more changes of_level = record {
     few = accepted.room;
+    limited = kept.limited;
     bounded = let below = accepted.below in omega arith;
     counted = let counted = kept.counted in omega (arith, length_push history (sources_of after));
     first = push_keeps history (sources_of after) 0 [] kept.first;
@@ -83,7 +85,7 @@ module _ (es : Entries) (n : ℕ) (marks : Marks) (history : List Sources) (kept
   }
 
   -- a file that is set to what it was: nothing changed
-  pub kept_same : Accepted → (entry_in es name).file ≡ entry.file → entry.changed ≡ (entry_in es name).changed → IsKept after (n + 1) marks next
+  pub kept_same : Accepted → (entry_in es name).file ≡ entry.file → entry.changed ≡ (entry_in es name).changed → IsKept limit after (n + 1) marks next
   kept_same accepted same changed = sound accepted marks
       (λ q. let stays : (entry_in es q).changed ≡ (entry_in after q).changed = changed_stays q in
       subst (λ (r : ℕ). IsLastChange next q r) stays (last_stays (changes_extended history n (sources_of es) (sources_of after) kept.counted kept.latest q) (entry_in es q).changed (kept.changes q) (unchanged q (file_stays q))))
@@ -109,7 +111,7 @@ module _ (es : Entries) (n : ℕ) (marks : Marks) (history : List Sources) (kept
       (λ same. differs (sym (file_is es name) ∙ same ∙ file_is after name ∙ ap (λ (e : Entry). e.file) (here name ((bytes_eq-Decides name name).1 refl))))
 
   -- a file that changed: its revision and those of its durability and the lower ones move
-  pub kept_changed : Accepted → (more : Marks) → ((entry_in es name).file ≡ entry.file → ⊥) → entry.changed ≡ n + 1 → ((d : Durability) → mark_of more d ≡ (if nat_le (level d) (level (entry_in es name).file.durability) then n + 1 else mark_of marks d)) → IsKept after (n + 1) more next
+  pub kept_changed : Accepted → (more : Marks) → ((entry_in es name).file ≡ entry.file → ⊥) → entry.changed ≡ n + 1 → ((d : Durability) → mark_of more d ≡ (if nat_le (level d) (level (entry_in es name).file.durability) then n + 1 else mark_of marks d)) → IsKept limit after (n + 1) more next
   kept_changed accepted more differs changed noted = sound accepted more changes of_level
     where
       -- no other file changed
@@ -162,18 +164,18 @@ not_some None none = refl
 not_some (Some e) none = absurd (true≢false none)
 
 -- what is not refused finds room for its file and its revision
-pub accepted : (es : Entries) (n : ℕ) (marks : Marks) (history : List Sources) (kept : IsKept es n marks history) (name : List ℕ) (entry : Entry) (text : Option (List ℕ)) → refusal (record { files = sources_of es; revision = n; history = history }) name text ≡ None → Accepted es n marks history kept name entry
-accepted es n marks history kept name entry text unrefused = record { room = room; below = below }
+pub accepted : (limit : ℕ) (es : Entries) (n : ℕ) (marks : Marks) (history : List Sources) (kept : IsKept limit es n marks history) (name : List ℕ) (entry : Entry) (text : Option (List ℕ)) → refusal (record { files = sources_of es; revision = n; history = history; limit = limit }) name text ≡ None → Accepted limit es n marks history kept name entry
+accepted limit es n marks history kept name entry text unrefused = record { room = room; below = below }
   where
-    parts : (is_full_for (sources_of es) name ≡ false) × ((n == last_revision) ≡ false)
-    parts = unrefused_parts (is_too_long text) (is_full_for (sources_of es) name) (n == last_revision) unrefused
+    parts : (is_full_for (record { files = sources_of es; revision = n; history = history; limit = limit }) name ≡ false) × ((n == last_revision) ≡ false)
+    parts = unrefused_parts (is_too_long text) (is_full_for (record { files = sources_of es; revision = n; history = history; limit = limit }) name) (n == last_revision) unrefused
 
-    room : length (with_entry es name entry) ≤ max_files
+    room : length (with_entry es name entry) ≤ limit
     room = elim (cases_bool (is_some (lookup es name))) [
       | inl known ↦ rw (length_with_known es name entry known) kept.few
       | inr new ↦
-          let free : (length (sources_of es) == max_files) ≡ false = rw (was_set_is es name ∙ new) at parts.0 in
-          let below_all : length es < max_files = below_limit (length es) max_files kept.few (rw length_sources at free) in
+          let free : (length (sources_of es) == limit) ≡ false = rw (was_set_is es name ∙ new) at parts.0 in
+          let below_all : length es < limit = below_limit (length es) limit kept.few (rw length_sources at free) in
           rw (with_new es name entry (not_some (lookup es name) new)) (omega (arith, length_push es (name, entry), below_all))
     ]
 
@@ -181,9 +183,9 @@ accepted es n marks history kept name entry text unrefused = record { room = roo
     below = below_limit n last_revision kept.bounded parts.1
 
 -- a file that is set, whether it changed or not
-pub kept_set : (es : Entries) (n : ℕ) (marks : Marks) (history : List Sources) (kept : IsKept es n marks history) (name : List ℕ) (entry : Entry) (text : Option (List ℕ)) (more : Marks) (before : Option Durability) → refusal (record { files = sources_of es; revision = n; history = history }) name text ≡ None → entry.changed ≡ (if is_some before then n + 1 else (entry_in es name).changed) → MatchOption before ((entry_in es name).file ≡ entry.file) (λ d. (d ≡ (entry_in es name).file.durability) × ((entry_in es name).file ≢ entry.file)) → MatchOption before (more ≡ marks) (λ b. (d : Durability) → mark_of more d ≡ (if nat_le (level d) (level b) then n + 1 else mark_of marks d)) → IsKept (with_entry es name entry) (n + 1) more (history ++ sources_of (with_entry es name entry) ∷ [])
-kept_set es n marks history kept name entry text more None unrefused changed same noted =
-    rw noted (kept_same es n marks history kept name entry (accepted es n marks history kept name entry text unrefused) same changed)
-kept_set es n marks history kept name entry text more (Some b) unrefused changed differs noted =
-    kept_changed es n marks history kept name entry (accepted es n marks history kept name entry text unrefused) more differs.1 changed
+pub kept_set : (limit : ℕ) (es : Entries) (n : ℕ) (marks : Marks) (history : List Sources) (kept : IsKept limit es n marks history) (name : List ℕ) (entry : Entry) (text : Option (List ℕ)) (more : Marks) (before : Option Durability) → refusal (record { files = sources_of es; revision = n; history = history; limit = limit }) name text ≡ None → entry.changed ≡ (if is_some before then n + 1 else (entry_in es name).changed) → MatchOption before ((entry_in es name).file ≡ entry.file) (λ d. (d ≡ (entry_in es name).file.durability) × ((entry_in es name).file ≢ entry.file)) → MatchOption before (more ≡ marks) (λ b. (d : Durability) → mark_of more d ≡ (if nat_le (level d) (level b) then n + 1 else mark_of marks d)) → IsKept limit (with_entry es name entry) (n + 1) more (history ++ sources_of (with_entry es name entry) ∷ [])
+kept_set limit es n marks history kept name entry text more None unrefused changed same noted =
+    rw noted (kept_same limit es n marks history kept name entry (accepted limit es n marks history kept name entry text unrefused) same changed)
+kept_set limit es n marks history kept name entry text more (Some b) unrefused changed differs noted =
+    kept_changed limit es n marks history kept name entry (accepted limit es n marks history kept name entry text unrefused) more differs.1 changed
     (λ d. noted d ∙ ap (λ (l : Durability). if nat_le (level d) (level l) then n + 1 else mark_of marks d) differs.0)

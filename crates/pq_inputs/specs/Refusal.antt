@@ -9,9 +9,14 @@ use Rattle.pq_inputs.specs.Sources.{Sources, Table}
 abbrev pub max_text : ℕ
 max_text = 1048576
 
--- `max_files` is the number of files that can be set, each counted once
+-- `max_files` is the number of files that can be set, each counted once, where no other limit was
+-- given
 abbrev pub max_files : ℕ
 max_files = 4096
+
+-- `most_files` is the greatest limit that can be given to the number of files
+abbrev pub most_files : ℕ
+most_files = 65536
 
 -- `last_revision` is the revision at which no change is accepted
 abbrev pub last_revision : ℕ
@@ -27,14 +32,14 @@ abbrev pub is_too_long : Option (List ℕ) → Bool
 is_too_long None = false
 is_too_long (Some text) = nat_lt max_text (length text)
 
--- `is_full_for files name` is whether the file of this name is new and no new file can be set
-abbrev pub is_full_for : Sources → List ℕ → Bool
-is_full_for files name = not (was_set files name) && (length files == max_files)
+-- `is_full_for table name` is whether the file of this name is new and no new file can be set
+abbrev pub is_full_for : Table → List ℕ → Bool
+is_full_for table name = not (was_set table.files name) && (length table.files == table.limit)
 
 -- `refusal table name text` is the first reason, in this order, to refuse `text` as the text of the
 -- file `name`, or None
 abbrev pub refusal : Table → List ℕ → Option (List ℕ) → Option InputFault
 refusal table name text =
     if is_too_long text then Some TextTooLong
-    else (if is_full_for table.files name then Some TooManyFiles
+    else (if is_full_for table name then Some TooManyFiles
     else (if table.revision == last_revision then Some RevisionsUsedUp else None))

@@ -29,12 +29,13 @@ unfoldable pub with_file : Sources → List ℕ → File → Sources
 with_file [] name file = (name, file) ∷ []
 with_file (e ∷ es) name file = cond (bytes_eq e.0 name) ((name, file) ∷ es) (e ∷ with_file es name file)
 
--- `Table` is what contracts see of inputs: the sources now, the last revision, and the history, the
--- sources at each revision from 0 on
+-- `Table` is what contracts see of inputs: the sources now, the last revision, the history (the
+-- sources at each revision from 0 on), and the number of files that can be set
 pub record Table : Type 0 where
   pub files : Sources
   pub revision : ℕ
   pub history : List Sources
+  pub limit : ℕ
 
 -- `ChangesAt history name revision` says that the file of this name differs, in text or durability,
 -- between `revision` and the next one

@@ -2,19 +2,19 @@
 ghost use Rattle.std.specs.Prelude.{◌≡◌, ◌≢◌, ◌≤◌, [], length, slice_get, slice_set, string_bytes, MatchOption, IfOk, IfErr, IfSome, IfNone, OnErr, if◌then◌else◌, is_some, None, Some};
 ghost use Rattle.std.specs.Option.{option_map, option_copied};
 ghost use Rattle.pq_inputs.specs.Sources.{File};
-ghost use Rattle.pq_inputs.specs.Refusal.{max_files};
+ghost use Rattle.pq_inputs.specs.Refusal.{most_files};
 ghost use Rattle.pq_inputs.specs.aux.Kept.{Entry, lookup, entry_in, with_entry};
 
 use crate::durability::Durability;
 use crate::fault::Memory;
-use crate::limits::MAX_FILES;
+use crate::limits::MOST_FILES;
 use crate::record::Record;
 use pq_names::{MAX_NAMES, Names, NamesFault};
 use std::alloc::Global;
 use std::marker::Model;
 
 // The table of names takes the name of each file.
-const _: () = prove!(MAX_FILES < MAX_NAMES);
+const _: () = prove!(MOST_FILES < MAX_NAMES);
 
 /// The files that were ever set, by name. Contracts see them in the order in which they were first
 /// set.
@@ -99,7 +99,7 @@ impl Files {
 
     /// The index of the file `name`, which becomes one of the files where it was never set.
     fn place(&mut self, name: &str) -> Result<usize, Memory>
-        requires { length self.old ≤ max_files }
+        requires { length self.old ≤ most_files }
         ensures place { IfOk result (λ place.
             slice_get self.new place ≡ Some (name.now, entry_in self.old name.now)) }
         ensures entries { IfOk result (λ place. (entry : Entry) →
@@ -144,7 +144,7 @@ impl Files {
         durability: Durability,
         revision: u64,
     ) -> Result<Option<Durability>, Option<String>>
-        requires { length self.old ≤ max_files }
+        requires { length self.old ≤ most_files }
         ensures written { IfOk result (λ before.
             self.new ≡ with_entry self.old name.now (record {
               file = record { text = option_map string_bytes text; durability = durability };

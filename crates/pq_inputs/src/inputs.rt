@@ -1,16 +1,16 @@
 //! The inputs: the files now, and what is known of their changes.
-ghost use Rattle.std.specs.Prelude.{◌≡◌, ℕ, ◌+◌, ◌<◌, ◌≤◌, List, [], ◌∷◌, ◌++◌, length, slice_get, string_bytes, Option, Some, None, false, unwrap_or, IfOk, IfSome, IfNone, OnOk, IfErr, OnErr};
+ghost use Rattle.std.specs.Prelude.{◌≡◌, ℕ, min, ◌+◌, ◌<◌, ◌≤◌, List, [], ◌∷◌, ◌++◌, length, slice_get, string_bytes, Option, Some, None, false, unwrap_or, IfOk, IfSome, IfNone, OnOk, IfErr, OnErr};
 ghost use Rattle.std.specs.Option.{option_map, option_copied};
 ghost use Rattle.pq_inputs.specs.declared.durability.Durability.{Durability};
 ghost use Rattle.pq_inputs.specs.Sources.{File, Sources, file_in, with_file, ChangesAt};
 ghost use Rattle.pq_inputs.specs.Changes.{level, IsLastChange, IsLastChangeOf};
-ghost use Rattle.pq_inputs.specs.Refusal.{is_full_for, is_too_long, last_revision, refusal, was_set};
+ghost use Rattle.pq_inputs.specs.Refusal.{is_full_for, is_too_long, last_revision, max_files, most_files, refusal, was_set};
 
 use crate::durability::Durability;
 use crate::fault::{InputFault, Memory, SetRefused};
 use crate::files::Files;
 use crate::last_changed::LastChanged;
-use crate::limits::{LAST_REVISION, MAX_FILES, MAX_TEXT};
+use crate::limits::{LAST_REVISION, MAX_FILES, MAX_TEXT, MOST_FILES};
 use crate::past::Past;
 use crate::record::Record;
 use crate::revision::Revision;
@@ -20,14 +20,15 @@ use std::marker::Model;
 /// The texts and durabilities of files, the last revision, and the revision of the last change of
 /// each file.
 ///
-/// Contracts see the files, the last revision, and the history: the sources at each revision from 0
-/// on.
+/// Contracts see the files, the last revision, the history (the sources at each revision from 0 on),
+/// and the number of files that can be set.
 #[derive(Drop)]
 pub struct Inputs {
     files: Files,
     revision: u64,
     last_changed: LastChanged,
     history: Vec<Past>,
+    limit: usize,
 }
 
 /// The last change of a file.
@@ -46,17 +47,29 @@ impl Model for Inputs {
 
     ghost use Rattle.pq_inputs.specs.aux.Kept.{sources_of, IsKept};
 
-    ghost view = { λ i. record { files = sources_of i.files; revision = i.revision; history = i.history.items } };
+    ghost view = { λ i. record { files = sources_of i.files; revision = i.revision; history = i.history.items; limit = i.limit } };
 
-    ghost invariant = { λ i. IsKept i.files i.revision i.last_changed i.history.items };
+    ghost invariant = { λ i. IsKept i.limit i.files i.revision i.last_changed i.history.items };
 }
 
 impl Inputs {
-    /// Inputs without files, at revision 0, which take their memory from `alloc`.
+    /// Inputs without files, at revision 0, which take their memory from `alloc`, and at most
+    /// `MAX_FILES` files.
     pub fn new(alloc: Global) -> Result<Inputs, Memory>
-        // No file was set, the revision is 0, and the history has one member, without files.
+        // No file was set, the revision is 0, the history has one member, without files, and as
+        // many files can be set as `max_files` says.
         ensures { IfOk result (λ inputs.
-            inputs ≡ record { files = []; revision = 0; history = [] ∷ [] }) }
+            inputs ≡ record { files = []; revision = 0; history = [] ∷ []; limit = max_files }) }
+    {
+        Inputs::with_limit(alloc, MAX_FILES)
+    }
+
+    /// Inputs as those of `new` that take `limit` files, or `MOST_FILES` where that is less.
+    pub fn with_limit(alloc: Global, limit: usize) -> Result<Inputs, Memory>
+        // No file was set, the revision is 0, the history has one member, without files, and as many
+        // files can be set as the limit says, and at most 65,536.
+        ensures { IfOk result (λ inputs.
+            inputs ≡ record { files = []; revision = 0; history = [] ∷ []; limit = min limit most_files }) }
     {
         let files = Files::new(alloc);
         let mut history = Vec::new(alloc);
@@ -66,6 +79,7 @@ impl Inputs {
             revision: 0,
             last_changed: LastChanged::new(),
             history,
+            limit: limit.min(MOST_FILES),
         })
     }
 
@@ -78,7 +92,7 @@ impl Inputs {
     /// # Errors
     ///
     /// - `TextTooLong` exactly where `text` has more than `MAX_TEXT` bytes.
-    /// - Else `TooManyFiles` exactly where the file was never set and `MAX_FILES` files were.
+    /// - Else `TooManyFiles` exactly where the file was never set and as many files were as can be.
     /// - Else `RevisionsUsedUp` exactly where the revision is `LAST_REVISION`.
     /// - Else `Memory` where an allocation fails.
     pub fn set(
@@ -87,16 +101,18 @@ impl Inputs {
         text: Option<String>,
         durability: Durability,
     ) -> Result<Revision, SetRefused>
-        // `revision`, `files`, `history`: An accepted change makes one revision more, sets exactly
-        // this file, and appends exactly these sources to the history.
+        // `revision`, `files`, `history`, `limit`: An accepted change makes one revision more, sets
+        // exactly this file, appends exactly these sources to the history, and leaves the number of
+        // files that can be set.
         ensures revision { IfOk result (λ revision.
             (revision ≡ self.old.revision + 1) × (self.new.revision ≡ revision)) }
         ensures files { let file : File = record { text = option_map string_bytes text; durability = durability } in
             OnOk result (self.new.files ≡ with_file self.old.files name.now file) }
         ensures history { OnOk result (self.new.history ≡ self.old.history ++ self.new.files ∷ []) }
+        ensures limit { OnOk result (self.new.limit ≡ self.old.limit) }
         // `accepted`, `fault`: A change is refused with the first reason that holds: text over
-        // 1,048,576 bytes, a 4,097th file, revision 18,446,744,073,709,551,615. `Memory` in no
-        // other case than a failed allocation.
+        // 1,048,576 bytes, a new file where as many were set as can be, revision
+        // 18,446,744,073,709,551,615. `Memory` in no other case than a failed allocation.
         ensures accepted { OnOk result
             (refusal self.old name.now (option_map string_bytes text) ≡ None) }
         ensures fault { IfErr result (λ refused.
@@ -149,12 +165,12 @@ impl Inputs {
 
     /// Whether the file `name` is new and no new file can be set.
     fn is_full_for(&self, name: &str) -> bool
-        ensures { result ≡ is_full_for self.now.files name.now }
+        ensures { result ≡ is_full_for self.now name.now }
     {
         if self.files.get(name).is_some() {
             return false;
         }
-        self.files.len() >= MAX_FILES
+        self.files.len() >= self.limit
     }
 
     /// The text of the file `name`, or `None` where it is absent or was never set.

@@ -34,5 +34,5 @@ pub use durability::Durability;
 pub use fault::{InputFault, Memory, SetRefused};
 pub use inputs::{Change, Inputs};
 pub use laws::one_last_change;
-pub use limits::{LAST_REVISION, MAX_FILES, MAX_TEXT};
+pub use limits::{LAST_REVISION, MAX_FILES, MAX_TEXT, MOST_FILES};
 pub use revision::Revision;

@@ -1,6 +1,7 @@
 -- The world that events are played in: the ledger of a core, and what its clients have taken.
 use Rattle.std.specs.Prelude.{List, [], ◌∷◌}
 use Rattle.pq_inputs.specs.Sources.{Table}
+use Rattle.pq_inputs.specs.Refusal.{max_files}
 use Rattle.pq_core.specs.Points.{Point}
 use Rattle.pq_core.specs.Replies.{ReplyView}
 use Rattle.pq_core.specs.Outboxes.{Listed}
@@ -14,7 +15,7 @@ pub record World (K V : Type 0) : Type 0 where
 
 -- `no_files` is the inputs at revision 0, when no file was set
 abbrev pub no_files : Table
-no_files = record { files = []; revision = 0; history = [] ∷ [] }
+no_files = record { files = []; revision = 0; history = [] ∷ []; limit = max_files }
 
 -- `beginning` is the world of a fresh core: no file was set, and no client was opened
 abbrev pub beginning : {K V : Type 0} → World K V

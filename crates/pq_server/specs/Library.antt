@@ -9,7 +9,7 @@ use Rattle.pq_inputs.specs.declared.durability.Durability.TheVariants.{High}
 use Rattle.pq_inputs.specs.declared.fault.InputFault.{InputFault}
 use Rattle.pq_inputs.specs.declared.fault.InputFault.TheVariants as input
 use Rattle.pq_inputs.specs.Sources.{File, Sources, Table, with_file}
-use Rattle.pq_inputs.specs.Refusal.{refusal}
+use Rattle.pq_inputs.specs.Refusal.{max_files, refusal}
 use Rattle.pq_server.specs.declared.library.fault.LibraryFault.{LibraryFault}
 use Rattle.pq_server.specs.declared.library.fault.LibraryFault.TheVariants.{Unreadable, Memory}
 
@@ -36,9 +36,9 @@ with_library sources [] = sources
 with_library sources (file ∷ files) = with_library (with_file sources file.0 (lasting file.1)) files
 
 -- `IsFilled files table` is that `table` has `files` and no other file: they were set in this order,
--- each with High durability, and no other change was made.
+-- each with High durability, no other change was made, and 4,096 files can be set.
 abbrev pub IsFilled : Library → Table → Type 0
-IsFilled files table = (table.files ≡ with_library [] files) × (table.revision ≡ length files)
+IsFilled files table = (table.files ≡ with_library [] files) × (table.revision ≡ length files) × (table.limit ≡ max_files)
 
 -- `IsLibraryOf names table` is that `table` has the files of these names and no other file: each name
 -- has a file of some text, and they were set in byte order of the names.
@@ -56,7 +56,7 @@ abbrev pub IsRefused : Library → InputFault → Type 0
 IsRefused files fault =
     (before : Library) × (file : List ℕ × List ℕ) × (after : Library)
     × (files ≡ before ++ file ∷ after)
-    × (refusal (record { files = with_library [] before; revision = length before; history = [] }) file.0 (Some file.1) ≡ Some fault)
+    × (refusal (record { files = with_library [] before; revision = length before; history = []; limit = max_files }) file.0 (Some file.1) ≡ Some fault)
 
 -- `fault_of fault` is the fault of a library of which a file was not set, by `fault`.
 abbrev pub fault_of : InputFault → LibraryFault

@@ -41,7 +41,7 @@ never_edit (Some text) (Some fault) other e = let same : fault ≡ input.Memory 
 never_meant : (state : ScriptState) (message : Meaning) (after : ScriptState) → RespondsTo state message (refuses input.Memory) after → ⊥
 never_meant state (asks label query) after (text, is, e, same) = absurd (cc e)
 never_meant state (says text) after (e, same) = absurd (cc e)
-never_meant state (edits change) after (e, same) = never_edit (text_made state.files change) (edit_refusal state change) (never_refused (record { files = state.files; revision = state.revision; history = [] }) change.file (file_of state.files change).text) (sym e)
+never_meant state (edits change) after (e, same) = never_edit (text_made state.files change) (edit_refusal state change) (never_refused (record { files = state.files; revision = state.revision; history = []; limit = state.limit }) change.file (file_of state.files change).text) (sym e)
 never_meant state (withdraws label) after (e, same) = absurd (cc e)
 never_meant state ignores after (e, same) = absurd (cc e)
 never_meant state (ends status) after (e, same) = absurd (cc e)

@@ -5,8 +5,8 @@ use Rattle.pq_frame.specs.Json.{IsJson}
 use Rattle.pq_frame.specs.Labels.{LabelModel}
 use Rattle.pq_frame.specs.Messages.{message_of}
 use Rattle.pq_inputs.specs.declared.fault.InputFault.{InputFault}
-use Rattle.pq_inputs.specs.Sources.{Sources, with_file}
-use Rattle.pq_inputs.specs.Refusal.{refusal}
+use Rattle.pq_inputs.specs.Sources.{Sources, Table, with_file}
+use Rattle.pq_inputs.specs.Refusal.{max_files, refusal}
 use Rattle.pq_rules.specs.declared.turn.Answer.{Answer}
 use Rattle.pq_core.specs.Changes.{ChangeView}
 use Rattle.pq_core.specs.Moves.{text_made, file_of}
@@ -19,22 +19,24 @@ use Rattle.pq_session.specs.Session.{Meaning, asks, says, edits, withdraws, igno
 use Rattle.pq_session.specs.Reply.{out_of_memory_text}
 use Rattle.pq_session.specs.Replies.{answer_text}
 
--- The state of a script: whether braces are read, the phase of the session, the sources now, and the
--- number of their revision: one for each file that was set before the script, and one for each edit.
+-- The state of a script: whether braces are read, the phase of the session, the sources now, the
+-- number of their revision (one for each file that was set before the script, and one for each edit),
+-- and the number of files that can be set.
 pub record ScriptState : Type 0 where
   pub loose : Bool
   pub phase : Phase
   pub files : Sources
   pub revision : ℕ
+  pub limit : ℕ
 
--- `started loose files revision` is the state of a script at its start, over these sources. Braces are
--- read if `loose`.
-abbrev pub started : Bool → Sources → ℕ → ScriptState
-started loose files revision = record { loose = loose; phase = Fresh; files = files; revision = revision }
+-- `started loose inputs` is the state of a script at its start, over these inputs. Braces are read if
+-- `loose`.
+abbrev pub started : Bool → Table → ScriptState
+started loose inputs = record { loose = loose; phase = Fresh; files = inputs.files; revision = inputs.revision; limit = inputs.limit }
 
 -- `fresh` is the state of a script that starts without files, and reads no braces.
 abbrev pub fresh : ScriptState
-fresh = started false [] 0
+fresh = record { loose = false; phase = Fresh; files = []; revision = 0; limit = max_files }
 
 -- The response to a message: a text, nothing, the end of the session with a status, or an edit that
 -- ends the script, since it is refused or has a bad range.
@@ -59,7 +61,7 @@ IsAnswer state label key text =
 -- `edit_refusal state change` is the error of an edit that makes `change`, if the text that it makes
 -- is refused.
 abbrev pub edit_refusal : ScriptState → ChangeView → Option InputFault
-edit_refusal state change = refusal (record { files = state.files; revision = state.revision; history = [] }) change.file (file_of state.files change).text
+edit_refusal state change = refusal (record { files = state.files; revision = state.revision; history = []; limit = state.limit }) change.file (file_of state.files change).text
 
 -- `edit_response made refusal` is the response to an edit that makes the text `made`, which has this
 -- refusal. `made` is None for a bad range. An accepted edit has no response.
@@ -72,7 +74,7 @@ edit_response (Some text) (Some fault) = refuses fault
 -- this refusal. An accepted edit makes a revision, in which `change` is made.
 abbrev pub edited : ScriptState → ChangeView → Option (Option (List ℕ)) → Option InputFault → ScriptState
 edited state change None refusal = state
-edited state change (Some text) None = record { loose = state.loose; phase = state.phase; files = with_file state.files change.file (file_of state.files change); revision = state.revision + 1 }
+edited state change (Some text) None = record { loose = state.loose; phase = state.phase; files = with_file state.files change.file (file_of state.files change); revision = state.revision + 1; limit = state.limit }
 edited state change (Some text) (Some fault) = state
 
 -- `RespondsTo state meaning response after` is that a script in `state` may give `response` to a
@@ -87,7 +89,7 @@ RespondsTo state (ends status) response after = (response ≡ finishes status) �
 
 -- `in_phase phase state` is `state` with this phase.
 abbrev pub in_phase : Phase → ScriptState → ScriptState
-in_phase phase state = record { loose = state.loose; phase = phase; files = state.files; revision = state.revision }
+in_phase phase state = record { loose = state.loose; phase = phase; files = state.files; revision = state.revision; limit = state.limit }
 
 -- `Responds state body response after` is that a script in `state` may give `response` to `body`,
 -- and is then in the state `after`. The message that `body` is has its meaning by the phase before

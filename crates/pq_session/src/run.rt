@@ -99,7 +99,7 @@ pub fn script_over<R: Read, W: Write>(
     // The bytes that were written are what a session over the sources of `inputs` may respond to the
     // bytes that were read, and the bytes that were read show the result.
     ensures writes { (bytes : List ℕ) × (out : List ℕ)
-        × Scripts (started rules.loose inputs.files inputs.revision) (IsAtEnd (R.remaining (inner_of reader.new)))
+        × Scripts (started rules.loose inputs) (IsAtEnd (R.remaining (inner_of reader.new)))
         (reads_of reader.new ≡ reads_of reader.old + max_reads) bytes out result
         × Consumes (R.remaining (inner_of reader.old)) (R.remaining (inner_of reader.new)) bytes
         × Appends (W.contents (inner_of writer.old)) (W.contents (inner_of writer.new)) out }

@@ -38,19 +38,19 @@ touched_edits v w path names es same is e =
 
 -- the names that are touched below the same roots
 touched_below : (v : View) (path : List ℕ) (roots : List (List ℕ)) (names : List (List ℕ)) → roots ≡ v.roots
-    → names ≡ path ∷ flat_map (touched_by roots) (filter_map (name_below path) roots) → names ≡ touched v path
-touched_below v path roots names same is = is ∙ ap (λ (rs : List (List ℕ)). path ∷ flat_map (touched_by rs) (filter_map (name_below path) rs)) same
+    → names ≡ path ∷ flat_map (touched_by v.documents roots) (filter_map (name_below path) roots) → names ≡ touched v path
+touched_below v path roots names same is = is ∙ ap (λ (rs : List (List ℕ)). path ∷ flat_map (touched_by v.documents rs) (filter_map (name_below path) rs)) same
 
 -- the edits of a document
 pub document_done : (v b a : View) (path : List ℕ) (text : Option (List ℕ)) (roots names : List (List ℕ)) (es : List Edit) → b ≡ v → a ≡ with_document path text v → roots ≡ v.roots
-    → names ≡ path ∷ flat_map (touched_by roots) (filter_map (name_below path) roots) → es ≡ edited b a [] names → AreEdits v (with_document path text v) es
+    → names ≡ path ∷ flat_map (touched_by v.documents roots) (filter_map (name_below path) roots) → es ≡ edited b a [] names → AreEdits v (with_document path text v) es
 document_done v b a path text roots names es eb ea same is e =
     touched_edits v (with_document path text v) path names es (document_alone v path text) (touched_below v path roots names same is)
     (e ∙ ap (λ x. edited x a [] names) eb ∙ ap (λ x. edited v x [] names) ea)
 
 -- the edits of a file of the disk
 pub file_done : (v b a : View) (path : List ℕ) (text : Option (List ℕ)) (roots names : List (List ℕ)) (es : List Edit) → b ≡ v → a ≡ with_file path text v → roots ≡ v.roots
-    → names ≡ path ∷ flat_map (touched_by roots) (filter_map (name_below path) roots) → es ≡ edited b a [] names → AreEdits v (with_file path text v) es
+    → names ≡ path ∷ flat_map (touched_by v.documents roots) (filter_map (name_below path) roots) → es ≡ edited b a [] names → AreEdits v (with_file path text v) es
 file_done v b a path text roots names es eb ea same is e =
     touched_edits v (with_file path text v) path names es (file_alone v path text) (touched_below v path roots names same is)
     (e ∙ ap (λ x. edited x a [] names) eb ∙ ap (λ x. edited v x [] names) ea)

@@ -11,3 +11,6 @@ pub mod MapPaths
 pub mod Owing
 pub mod News
 pub mod Facing
+pub mod Looking
+pub mod Endings
+pub mod Nearness

@@ -1,7 +1,9 @@
 -- Tests of the items of a list.
 use Rattle.std.proofs.Common.{◌≡◌, ℕ, List, [], ◌∷◌, ◌++◌, Bool, true, false, refl, sym, ◌∙◌, ap}
-use Rattle.std.specs.Prelude.{Option, Some, None, ◌||◌, bytes_eq, map}
-use Rattle.std.specs.List.{list_any, cons_option}
+use Rattle.std.specs.Prelude.{Option, Some, None, ◌&&◌, ◌||◌, bytes_eq, map}
+use Rattle.std.specs.List.{filter, list_any, cons_option}
+use Rattle.std.proofs.lemmas.Cmp.{nat_list_eq_equiv}
+use Rattle.std.proofs.lemmas.Map.Made.{alike_from_same, is_member-filter}
 use Rattle.std.proofs.lemmas.List.Folds.{list_any-append}
 use Rattle.std.proofs.lemmas.Slice.Eq.{bytes_eq-Decides}
 
@@ -58,3 +60,7 @@ option_any p (Some x) = p x
 pub list_any-cons_option : {X : Type 0} (p : X → Bool) (o : Option X) (xs : List X) → list_any p (cons_option o xs) ≡ (option_any p o || list_any p xs)
 list_any-cons_option p None xs = refl
 list_any-cons_option p (Some x) xs = refl
+
+-- which texts pass a test
+pub filtered : (p : List ℕ → Bool) (q : List ℕ) (xs : List (List ℕ)) → list_any (bytes_eq q) (filter p xs) ≡ (list_any (bytes_eq q) xs && p q)
+filtered p q xs = is_member-filter nat_list_eq_equiv p q (alike_from_same bytes_eq-Decides p q) xs

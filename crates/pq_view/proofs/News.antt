@@ -3,17 +3,16 @@ use Rattle.std.proofs.Common.{◌≡◌, ◌≢◌, ℕ, List, [], ◌∷◌, �
 use Rattle.std.specs.Prelude.{◌↔◌, ◌&&◌, ◌||◌, not, bytes_eq, is_some, map, Contains, IsTrue, Option, Some, None, string_bytes, String}
 use Rattle.std.specs.BTreeMap.{BTreeMap, get_by_text}
 use Rattle.std.specs.List.{AllByRecursion, IsDistinct, filter, list_any}
-use Rattle.std.proofs.lemmas.Cmp.{nat_list_eq_equiv}
 use Rattle.std.proofs.lemmas.List.Folds.{list_any-append}
 use Rattle.std.proofs.lemmas.List.Kept.{AllPairs-filter}
 use Rattle.std.proofs.lemmas.Map.Keys.{IsDistinct-cons, IsDistinct-head, IsDistinct-tail}
-use Rattle.std.proofs.lemmas.Map.Made.{AllPairs-from_IsDistinct, IsDistinct-from_AllPairs, alike_from_same, is_member-Decides, is_member-filter}
+use Rattle.std.proofs.lemmas.Map.Made.{AllPairs-from_IsDistinct, IsDistinct-from_AllPairs, is_member-Decides}
 use Rattle.std.proofs.lemmas.Slice.Eq.{bytes_eq-Decides}
 use Rattle.pq_view.specs.Looks.{is_news}
 use Rattle.pq_view.specs.aux.Known.{paths_of}
 use Rattle.pq_view.specs.aux.News.{is_gone, is_news_at}
 use Rattle.pq_view.specs.declared.looks.Look.{Look}
-use Rattle.pq_view.proofs.ListTests.{bytes_same, or_false, or_true}
+use Rattle.pq_view.proofs.ListTests.{bytes_same, filtered, or_false, or_true}
 use Rattle.pq_view.proofs.MapPaths.{at_path}
 
 -- ---- path by path
@@ -50,10 +49,6 @@ tests (Some a) (Some b) = or_none (is_news (Some a) (Some b))
     or_none : (t : Bool) → (t || false) ≡ t
     or_none true = refl
     or_none false = refl
-
--- which texts pass a test
-filtered : (p : List ℕ → Bool) (q : List ℕ) (xs : List (List ℕ)) → list_any (bytes_eq q) (filter p xs) ≡ (list_any (bytes_eq q) xs && p q)
-filtered p q xs = is_member-filter nat_list_eq_equiv p q (alike_from_same bytes_eq-Decides p q) xs
 
 -- what passes one test does not pass the other
 in_one_test : (a n b : Bool) → (a && n) ≡ true → (b && not a) ≡ false

@@ -1,15 +1,17 @@
 -- What a change at a path leaves: the source of each name that it does not touch.
 --
 -- A name that is not below a root at the path has the same places. A path that is none of the paths
--- of the file's names has other names, and so it is the file of the same names.
+-- of the file's names has other names, and so it is the file of the same names. A path at which no
+-- document is open has no source before and after.
 use Rattle.std.proofs.Common.{◌≡◌, ◌⊎◌, inl, inr, ℕ, List, [], ◌∷◌, Bool, true, false, cond, refl, sym, ◌∙◌, ap}
-use Rattle.std.specs.Prelude.{Option, Some, None, ◌||◌, bytes_eq, is_some, map, flat_map, filter_map}
+use Rattle.std.specs.Prelude.{Option, Some, None, ◌&&◌, ◌||◌, bytes_eq, is_some, map, flat_map, filter_map}
 use Rattle.std.specs.List.{list_any}
 use Rattle.std.proofs.lemmas.Bool.{cond-true, cond-false, false_from_ne_true}
 use Rattle.pq_view.specs.Views.{View, below, is_path, name_below, names_of, place_in, place, placed_text, text_at, is_at, is_placed, is_found, own_text, source}
-use Rattle.pq_view.specs.aux.Touched.{SameBut, touched, touched_by}
+use Rattle.pq_view.specs.aux.Touched.{SameBut, open_below, touched, touched_by}
 use Rattle.pq_view.proofs.BelowRoots.{named, named_is}
-use Rattle.pq_view.proofs.ListTests.{or_false, false_or, bytes_same, bytes_is, append_false, list_any-map, both_false, any_weaker, option_any, list_any-cons_option}
+use Rattle.pq_view.proofs.Placing.{own_shut}
+use Rattle.pq_view.proofs.ListTests.{or_false, false_or, bytes_same, bytes_is, append_false, list_any-map, both_false, any_weaker, option_any, list_any-cons_option, filtered}
 
 -- a relative name that a root does not give is not below that root at the path
 not_below : (path root name : List ℕ) → is_path name ≡ false → option_any (bytes_eq name) (name_below path root) ≡ false → bytes_eq (below root name) path ≡ false
@@ -87,28 +89,47 @@ module _ (path : List ℕ) (b a : View) (same : SameBut path b a) where
       ap (λ t. cond t None (b.documents q)) (found_kept q b.roots h ∙ ap (λ rs. list_any (is_placed a q) (filter_map (name_below q) rs)) same.roots)
       ∙ ap (λ t. cond (is_found a q) None t) (same.documents q f)
 
-  -- a name that is not touched
-  out_of : (q : List ℕ) (roots ns : List (List ℕ)) → list_any (bytes_eq q) (flat_map (touched_by roots) ns) ≡ false
-      → (list_any (bytes_eq q) ns ≡ false) × (list_any (λ n. list_any (λ r. bytes_eq q (below r n)) roots) ns ≡ false)
-  out_of q roots [] h = (refl, refl)
-  out_of q roots (n ∷ ns) h =
-      let s = append_false (bytes_eq q) (touched_by roots n) (flat_map (touched_by roots) ns) h in
-      let t = or_false (bytes_eq q n) (list_any (bytes_eq q) (map (λ r. below r n) roots)) s.0 in
-      let u = out_of q roots ns s.1 in (
-        false_or (bytes_eq q n) (list_any (bytes_eq q) ns) t.0 u.0,
-        false_or (list_any (λ r. bytes_eq q (below r n)) roots) (list_any (λ n. list_any (λ r. bytes_eq q (below r n)) roots) ns) (sym (list_any-map (bytes_eq q) (λ r. below r n) roots) ∙ t.1) u.1,
-      )
+  -- a path with a document that is not touched
+  out_of : (q : List ℕ) (roots ns : List (List ℕ)) → is_some (b.documents q) ≡ true → list_any (bytes_eq q) (flat_map (touched_by b.documents roots) ns) ≡ false
+      → list_any (λ n. list_any (λ r. bytes_eq q (below r n)) roots) ns ≡ false
+  out_of q roots [] o h = refl
+  out_of q roots (n ∷ ns) o h =
+      let s = append_false (bytes_eq q) (touched_by b.documents roots n) (flat_map (touched_by b.documents roots) ns) h in
+      let t = or_false (bytes_eq q n) (list_any (bytes_eq q) (open_below b.documents roots n)) s.0 in
+      let all : list_any (bytes_eq q) (map (λ r. below r n) roots) ≡ false =
+      sym (and_true (list_any (bytes_eq q) (map (λ r. below r n) roots)) (is_some (b.documents q)) o)
+      ∙ sym (filtered (λ p. is_some (b.documents p)) q (map (λ r. below r n) roots)) ∙ t.1 in
+      false_or (list_any (λ r. bytes_eq q (below r n)) roots) (list_any (λ n. list_any (λ r. bytes_eq q (below r n)) roots) ns)
+      (sym (list_any-map (bytes_eq q) (λ r. below r n) roots) ∙ all) (out_of q roots ns o s.1)
+    where
+      and_true : (x y : Bool) → y ≡ true → (x && y) ≡ x
+      and_true true y e = e
+      and_true false y e = refl
+
+  -- a name that is not touched is none of the path's
+  no_name : (q : List ℕ) (roots ns : List (List ℕ)) → list_any (bytes_eq q) (flat_map (touched_by b.documents roots) ns) ≡ false → list_any (bytes_eq q) ns ≡ false
+  no_name q roots [] h = refl
+  no_name q roots (n ∷ ns) h =
+      let s = append_false (bytes_eq q) (touched_by b.documents roots n) (flat_map (touched_by b.documents roots) ns) h in
+      let t = or_false (bytes_eq q n) (list_any (bytes_eq q) (open_below b.documents roots n)) s.0 in
+      false_or (bytes_eq q n) (list_any (bytes_eq q) ns) t.0 (no_name q roots ns s.1)
+
+  -- the own text of a path that is not touched
+  own_untouched : (q : List ℕ) → bytes_eq q path ≡ false → list_any (bytes_eq q) (flat_map (touched_by b.documents b.roots) (names_of b path)) ≡ false
+      → (o : Option (List ℕ)) → b.documents q ≡ o → own_text b q ≡ own_text a q
+  own_untouched q f h None e = own_shut b q e ∙ sym (own_shut a q (sym (same.documents q f) ∙ e))
+  own_untouched q f h (Some t) e = own_kept q f (out_of q b.roots (names_of b path) (ap is_some e) h)
 
   -- a name that is not touched keeps its source
   untouched : (name : List ℕ) → list_any (bytes_eq name) (touched b path) ≡ false → (p : Bool) → is_path name ≡ p → source b name ≡ source a name
   untouched name h true e =
-      let s = or_false (bytes_eq name path) (list_any (bytes_eq name) (flat_map (touched_by b.roots) (names_of b path))) h in
+      let s = or_false (bytes_eq name path) (list_any (bytes_eq name) (flat_map (touched_by b.documents b.roots) (names_of b path))) h in
       cond-true (is_path name) (own_text b name) (placed_text b (place b name)) e
-      ∙ own_kept name s.0 (out_of name b.roots (names_of b path) s.1).1
+      ∙ own_untouched name s.0 s.1 (b.documents name) refl
       ∙ sym (cond-true (is_path name) (own_text a name) (placed_text a (place a name)) e)
   untouched name h false e =
-      let s = or_false (bytes_eq name path) (list_any (bytes_eq name) (flat_map (touched_by b.roots) (names_of b path))) h in
-      relative_kept name e (out_of name b.roots (names_of b path) s.1).0
+      let s = or_false (bytes_eq name path) (list_any (bytes_eq name) (flat_map (touched_by b.documents b.roots) (names_of b path))) h in
+      relative_kept name e (no_name name b.roots (names_of b path) s.1)
 
   -- each name keeps its source or is touched
   pub kept_or_touched : (name : List ℕ) → (source b name ≡ source a name) ⊎ (list_any (bytes_eq name) (touched b path) ≡ true)

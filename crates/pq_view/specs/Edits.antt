@@ -16,6 +16,10 @@ with_document path text v = record { roots = v.roots; disk = v.disk; documents =
 abbrev pub with_file : List ℕ → Option (List ℕ) → View → View
 with_file path text v = record { roots = v.roots; disk = with_text path text v.disk; documents = v.documents }
 
+-- `with_disk disk v` is `v` where `disk` is all that is known of the disk
+abbrev pub with_disk : Texts → View → View
+with_disk disk v = record { roots = v.roots; disk = disk; documents = v.documents }
+
 -- `with_roots roots v` is `v` with these roots
 abbrev pub with_roots : List (List ℕ) → View → View
 with_roots roots v = record { roots = roots; disk = v.disk; documents = v.documents }

@@ -4,4 +4,6 @@ pub mod Edits
 pub mod Owed
 pub mod Looks
 pub mod Shown
+pub mod Nearest
+pub mod Folders
 pub mod aux

@@ -60,6 +60,17 @@ place_in v (root ∷ roots) name = cond (is_some (text_at v (below root name))) 
 abbrev pub place : View → List ℕ → Option (List ℕ)
 place v name = place_in v v.roots name
 
+-- `paths_before_in v roots name` is the paths of the file `name` below `roots`, up to the first
+-- below which there is one, which is left out
+unfoldable pub paths_before_in : View → List (List ℕ) → List ℕ → List (List ℕ)
+paths_before_in v [] name = []
+paths_before_in v (root ∷ roots) name = cond (is_some (text_at v (below root name))) [] (below root name ∷ paths_before_in v roots name)
+
+-- `paths_before v name` is the paths at which the file `name` would be found before its place, or
+-- in place of it where it has none. A path is found nowhere else.
+abbrev pub paths_before : View → List ℕ → List (List ℕ)
+paths_before v name = cond (is_path name) [] (paths_before_in v v.roots name)
+
 -- `is_at path place` is whether `place` is `path`
 abbrev pub is_at : List ℕ → Option (List ℕ) → Bool
 is_at path None = false

@@ -6,3 +6,4 @@ pub mod Known
 pub mod Owing
 pub mod News
 pub mod Faces
+pub mod Tails

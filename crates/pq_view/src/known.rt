@@ -24,7 +24,7 @@ fn push_name(alloc: Global, names: &mut Vec<Text>, path: &str, root: &str) -> Re
 }
 
 /// Adds the names of the file at `path` below `roots`.
-fn push_names(
+pub(crate) fn push_names(
     alloc: Global,
     names: &mut Vec<Text>,
     roots: &[Text],

@@ -1,6 +1,6 @@
 //! What is asked of a view, also while a change is laid over it.
 ghost use Rattle.std.specs.Prelude.{◌≡◌, IfOk, option_copied, option_map, string_bytes};
-ghost use Rattle.pq_view.specs.Views.{below, first_placed, first_root, is_placed, name_of, names_of, own_text, path_of, place, source, text_at};
+ghost use Rattle.pq_view.specs.Views.{below, first_placed, first_root, is_placed, name_of, names_of, own_text, path_of, paths_before, place, source, text_at};
 ghost use Rattle.pq_view.specs.aux.Sights.{layer_text, seen, placed_below};
 
 use crate::names::{below, is_path, name_below};
@@ -69,6 +69,25 @@ impl<'a> Sight<'a> {
         Ok(None)
     }
 
+    /// The paths of the file `name` below the roots, up to the first root below which there is one,
+    /// which is left out.
+    pub(crate) fn paths_before(&self, name: &str) -> Result<Vec<Text>, Memory>
+        ensures paths { IfOk result (λ paths. paths.items ≡ paths_before (seen self.now) name.now) }
+    {
+        let mut paths = Vec::new(self.alloc);
+        if is_path(name) {
+            return Ok(paths);
+        }
+        'roots: for root in self.roots {
+            let path = below(self.alloc, root.as_str(), name)?;
+            if self.text_at(path.as_str()).is_some() {
+                return Ok(paths);
+            }
+            paths.push(Text::from_string(self.alloc, path)?)?;
+        }
+        Ok(paths)
+    }
+
     /// Whether `path` is the path of the file `name`.
     fn is_placed(&self, path: &str, name: &str) -> Result<bool, Memory>
         ensures placed { IfOk result (λ is. is ≡ is_placed (seen self.now) path.now name.now) }
@@ -109,9 +128,12 @@ impl<'a> Sight<'a> {
     fn own_text(&self, path: &str) -> Result<Option<&'a Text>, Memory>
         ensures text { IfOk result (λ text. option_copied text ≡ own_text (seen self.now) path.now) }
     {
+        let Some(text) = self.documents.get(path) else {
+            return Ok(None);
+        };
         match self.first_name(path)? {
             Some(_) => Ok(None),
-            None => Ok(self.documents.get(path)),
+            None => Ok(Some(text)),
         }
     }
 

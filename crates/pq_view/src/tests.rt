@@ -1,11 +1,15 @@
-//! A view as rows that one interpreter reads. Those of looks at the disk are in `looks`.
+//! A view as rows that one interpreter reads. Those of looks at the disk are in `looks`, those of
+//! roots that missing imports show in `tails`, and those of files of the build tool in `buf`.
 //!
 //! A row is `WORD REST => WANT`. `roots`, `file`, `gone`, `open` and `close` change the view, and
 //! write an edit as `NAME=TEXT`, or `NAME-` for a file that becomes absent. `source`, `text`, `name`,
-//! `path`, `is_open` and `owed` ask it; what is owed is `PATH=NAME`.
+//! `path`, `is_open`, `owed`, `before` and `names` ask it; what is owed is `PATH=NAME`. `before` are
+//! the paths before the place of a name, and `names` the names of a path.
 //!
 //! A row of the path that is shown is `ROOTS | FACES | PATH => WANT`.
+mod buf;
 mod looks;
+mod tails;
 
 use crate::edits::Edit;
 use crate::shown::shown_path;
@@ -25,6 +29,12 @@ name /a/x => x
 name /b/x => /b/x
 path x => /a/x
 path z => /a/z
+before x =>
+before y => /a/y
+before z => /a/z /b/z
+before /a/x =>
+names /b/x => x
+names /c/x =>
 path /c/z => /c/z
 open /b/x 4 => /b/x=4
 source /b/x => 4
@@ -48,6 +58,8 @@ name /c/z => z
 source z => 7
 roots / => a/x=5 /b/x- b/x=1 b/y=2 z- c/z=7
 source b/x => 1
+roots /b /b/c /b => a/x- b/x- x=1 b/y- y=2 /c/z=7 c/z-
+names /b/c/x => c/x x c/x
 ";
 
 /// The rows of the path that is shown. A root without a face is shown as it is.
@@ -93,6 +105,18 @@ fn line_of(alloc: Global, edits: &[Edit]) -> Result<String, Memory> {
     let mut line = String::new(alloc);
     for edit in edits {
         push_edit(&mut line, edit)?;
+    }
+    Ok(line)
+}
+
+/// The texts, in one line.
+fn words_of(alloc: Global, texts: &[Text]) -> Result<String, Memory> {
+    let mut line = String::new(alloc);
+    for text in texts {
+        if !line.is_empty() {
+            line.push_str(" ")?;
+        }
+        line.push_str(text.as_str())?;
     }
     Ok(line)
 }
@@ -149,6 +173,8 @@ fn answer(alloc: Global, view: &View, word: &str, rest: &str) -> Result<String, 
         "text" => shown(alloc, view.text_at(rest)),
         "name" => shown(alloc, Some(&view.name_of(rest)?)),
         "owed" => owed_line(alloc, view),
+        "before" => words_of(alloc, &view.paths_before(rest)?),
+        "names" => words_of(alloc, &view.names_of(rest)?),
         "path" => shown(alloc, Some(&view.path_of(rest)?)),
         _ => String::from_str(alloc, if view.is_open(rest) { "yes" } else { "no" }),
     }

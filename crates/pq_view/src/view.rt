@@ -3,11 +3,11 @@ ghost use Rattle.std.specs.Prelude.{◌≡◌, ◌↔◌, ℕ, List, [], None, I
 ghost use Rattle.std.specs.BTreeMap.{get_by_text};
 ghost use Rattle.pq_view.specs.Edits.{AreEdits, with_document, with_file, with_roots, with_text};
 ghost use Rattle.pq_view.specs.Held.{view_of};
-ghost use Rattle.pq_view.specs.Views.{name_of, path_of, source, text_at};
+ghost use Rattle.pq_view.specs.Views.{name_of, names_of, path_of, paths_before, source, text_at};
 ghost use Rattle.pq_view.specs.aux.Sights.{seen};
 
 use crate::edits::{Edit, edits_of};
-use crate::known::known_names;
+use crate::known::{known_names, push_names};
 use crate::sight::{Change, Layer, Sight};
 use crate::touched::touched;
 use pq_names::{Memory, Text};
@@ -124,6 +124,35 @@ impl View {
         self.sight().path_of(name)
     }
 
+    /// The names of the file at `path` below the roots, in their order. A file that lies below no
+    /// root has none. With R roots it takes R comparisons.
+    ///
+    /// `Memory` comes if an allocation fails.
+    pub fn names_of(&self, path: &str) -> Result<Vec<Text>, Memory>
+        // What is left of the path below each root below which it lies.
+        ensures names { IfOk result (λ names. names.items ≡ names_of (view_of self.now) path.now) }
+    {
+        let mut names = Vec::new(self.alloc);
+        push_names(self.alloc, &mut names, &self.roots, path)?;
+        Ok(names)
+    }
+
+    /// The paths at which the file `name` would be found before the place that it has, or in place
+    /// of it where it has none: below each root, up to the first below which the view has a text.
+    /// A name that is a path has none.
+    ///
+    /// Who knows that the disk has nothing at these paths, and what it has at the place, knows all
+    /// of the disk on which the source of the file rests: `what_was_looked_at_is_enough`.
+    ///
+    /// With R roots and N paths it takes at most R look-ups of log N comparisons. `Memory` comes if
+    /// an allocation fails.
+    pub fn paths_before(&self, name: &str) -> Result<Vec<Text>, Memory>
+        // The paths below the roots that come before the place of the file, in their order.
+        ensures paths { IfOk result (λ paths. paths.items ≡ paths_before (view_of self.now) name.now) }
+    {
+        self.sight().paths_before(name)
+    }
+
     /// The view after the document at `path` has `text`, or is closed, for questions.
     fn after_document<'a>(&'a self, path: &'a str, text: Option<&'a Text>) -> Sight<'a>
         ensures seen { seen result ≡ with_document path.now (option_copied text.entry) (view_of self.now) }
@@ -186,7 +215,7 @@ impl View {
         ensures edits { IfOk result (λ es. AreEdits (view_of self.now)
             (with_document path.now (option_copied text.entry) (view_of self.now)) es.items) }
     {
-        let names = touched(self.alloc, &self.roots, path)?;
+        let names = touched(self.alloc, &self.documents, &self.roots, path)?;
         let before = self.sight();
         let after = self.after_document(path, text);
         edits_of(self.alloc, &before, &after, &names)
@@ -197,7 +226,7 @@ impl View {
         ensures edits { IfOk result (λ es. AreEdits (view_of self.now)
             (with_file path.now (option_copied text.entry) (view_of self.now)) es.items) }
     {
-        let names = touched(self.alloc, &self.roots, path)?;
+        let names = touched(self.alloc, &self.documents, &self.roots, path)?;
         let before = self.sight();
         let after = self.after_file(path, text);
         edits_of(self.alloc, &before, &after, &names)
@@ -206,8 +235,9 @@ impl View {
     /// The document at `path` has `text` from now on, or is closed for `None`. The edits of the
     /// sources come back that follow from it.
     ///
-    /// With R roots and N paths it takes some R^4 log N comparisons. `Memory` comes if an
-    /// allocation fails, and then the view is as it was.
+    /// With R roots, N paths and K names of the path it takes some K R look-ups of log N comparisons,
+    /// and as many more for each document that is open at another path of one of these names.
+    /// `Memory` comes if an allocation fails, and then the view is as it was.
     pub fn set_document(&mut self, path: Text, text: Option<Text>) -> Result<Vec<Edit>, Memory>
         // `view`, `edits`: the view has the document, and all else as before. The edits are exactly
         // those of the files whose sources differ, each once.
@@ -224,8 +254,9 @@ impl View {
     /// The disk has `text` at `path` from now on, or nothing for `None`. The edits of the sources
     /// come back that follow from it.
     ///
-    /// With R roots and N paths it takes some R^4 log N comparisons. `Memory` comes if an
-    /// allocation fails, and then the view is as it was.
+    /// With R roots, N paths and K names of the path it takes some K R look-ups of log N comparisons,
+    /// and as many more for each document that is open at another path of one of these names.
+    /// `Memory` comes if an allocation fails, and then the view is as it was.
     pub fn set_file(&mut self, path: Text, text: Option<Text>) -> Result<Vec<Edit>, Memory>
         // `view`, `edits`: the disk has the file, and all else is as before. The edits are exactly
         // those of the files whose sources differ, each once.

@@ -7,7 +7,9 @@
 //! those of the last changes at Low, Medium and High. `now` writes the revision, and `changed` that
 //! of the file's last change.
 use crate::checks::{check_page, check_row_count, check_text, check_that, split_row, text_of};
-use pq_inputs::{Durability, InputFault, Inputs, MAX_FILES, MAX_TEXT, Revision, SetRefused};
+use pq_inputs::{
+    Durability, InputFault, Inputs, MAX_FILES, MAX_TEXT, MOST_FILES, Revision, SetRefused,
+};
 use std::process::Abort;
 use test_support::{Page, durability_of, is_sendable};
 
@@ -226,6 +228,34 @@ fn too_many_files(rt: HostRuntime) {
         high 4096 x => TooManyFiles x\n\
         now . . => 4096\n\
         high 4095 - => set\n\
+        now . . => 4097\n\
+        ",
+    );
+}
+
+#[test]
+fn limit_is_given(rt: HostRuntime) {
+    let mut inputs = Inputs::with_limit(rt.alloc(), 2).expect(&rt, "memory");
+    check_rows(
+        &rt,
+        &mut inputs,
+        5,
+        "\
+        low a x => set\n\
+        low b x => set\n\
+        low c x => TooManyFiles x\n\
+        low a y => set\n\
+        now . . => 3\n\
+        ",
+    );
+    let mut inputs = Inputs::with_limit(rt.alloc(), MOST_FILES).expect(&rt, "memory");
+    check_most_files(&rt, &mut inputs);
+    check_rows(
+        &rt,
+        &mut inputs,
+        2,
+        "\
+        high 4096 x => set\n\
         now . . => 4097\n\
         ",
     );

@@ -6,7 +6,7 @@ use Rattle.pq_inputs.specs.declared.durability.Durability.{Durability}
 use Rattle.pq_inputs.specs.declared.durability.Durability.TheVariants.{Low, Medium, High}
 use Rattle.pq_inputs.specs.Sources.{File, Sources, never_set, with_file}
 use Rattle.pq_inputs.specs.Changes.{IsLastChange, IsLastChangeOf}
-use Rattle.pq_inputs.specs.Refusal.{max_files, last_revision}
+use Rattle.pq_inputs.specs.Refusal.{most_files, last_revision}
 
 -- `Entry` is what is kept of a file: the file, and the revision of its last change
 pub record Entry : Type 0 where
@@ -59,9 +59,11 @@ mark_of m Low = m.low
 mark_of m Medium = m.medium
 mark_of m High = m.high
 
--- `IsKept entries revision marks history` is the invariant of the inputs
-pub record IsKept (entries : Entries) (revision : ℕ) (marks : Marks) (history : List Sources) : Type 0 where
-  pub few : length entries ≤ max_files
+-- `IsKept limit entries revision marks history` is the invariant of inputs that take as many files
+-- as `limit` says
+pub record IsKept (limit : ℕ) (entries : Entries) (revision : ℕ) (marks : Marks) (history : List Sources) : Type 0 where
+  pub few : length entries ≤ limit
+  pub limited : limit ≤ most_files
   pub bounded : revision ≤ last_revision
   pub counted : length history ≡ revision + 1
   pub first : slice_get history 0 ≡ Some []

@@ -81,13 +81,14 @@ impl<R: Rules> Engine<R> {
         // `rules`, `places`: The rule set and every memo stay.
         ensures rules { self.new.rules ≡ self.old.rules }
         ensures places { self.new.places ≡ self.old.places }
-        // `revision`, `files`, `history`, `accepted`, `fault`, `refused`, `back`: The clauses of
-        // `Inputs::set`, said of the engine's inputs.
+        // `revision`, `files`, `history`, `limit`, `accepted`, `fault`, `refused`, `back`: The clauses
+        // of `Inputs::set`, said of the engine's inputs.
         ensures revision { IfOk result (λ revision.
             (revision ≡ self.old.inputs.revision + 1) × (self.new.inputs.revision ≡ revision)) }
         ensures files { let file : File = record { text = option_map string_bytes text; durability = durability } in
             OnOk result (self.new.inputs.files ≡ with_file self.old.inputs.files name.now file) }
         ensures history { OnOk result (self.new.inputs.history ≡ self.old.inputs.history ++ self.new.inputs.files ∷ []) }
+        ensures limit { OnOk result (self.new.inputs.limit ≡ self.old.inputs.limit) }
         ensures accepted { OnOk result
             (refusal self.old.inputs name.now (option_map string_bytes text) ≡ None) }
         ensures fault { IfErr result (λ refused.

@@ -39,7 +39,7 @@ pub fn run_library_script<R: Read, W: Write, E: Write>(
         × (failed_of errors.new ≡ failed_of errors.old → Appends (E.contents (inner_of errors.old)) (E.contents (inner_of errors.new)) (start_line fault))) }
     // What `run_script` says, over the sources and the revision of a library that was read.
     ensures serves { IfOk library (λ inputs. (bytes : List ℕ) × (out : List ℕ) × (outcome : Result ℕ ScriptFault)
-        × Scripts (started rules.loose inputs.files inputs.revision) (IsAtEnd (R.remaining (inner_of reader.new))) (reads_of reader.new ≡ reads_of reader.old + 4294967296) bytes out outcome
+        × Scripts (started rules.loose inputs) (IsAtEnd (R.remaining (inner_of reader.new))) (reads_of reader.new ≡ reads_of reader.old + 4294967296) bytes out outcome
         × Consumes (R.remaining (inner_of reader.old)) (R.remaining (inner_of reader.new)) bytes
         × Appends (W.contents (inner_of writer.old)) (W.contents (inner_of writer.new)) out
         × FailsToRead outcome (failed_of reader.old) (failed_of reader.new)

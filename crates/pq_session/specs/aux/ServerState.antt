@@ -8,7 +8,7 @@ use Rattle.pq_session.specs.Responses.{ScriptState, Response, replies, silent, f
 
 -- `state_of server` is the state of a script that keeps `server`.
 abbrev pub state_of : ServerState → ScriptState
-state_of server = record { loose = server.engine.rules.loose; phase = server.session; files = server.engine.inputs.files; revision = server.engine.inputs.revision }
+state_of server = record { loose = server.engine.rules.loose; phase = server.session; files = server.engine.inputs.files; revision = server.engine.inputs.revision; limit = server.engine.inputs.limit }
 
 -- `response_of step` is the response that `step` makes.
 abbrev pub response_of : Step → Response

@@ -50,7 +50,7 @@ pub(crate) enum Step {
 impl ServerState {
     /// The state at the start of a session over the sources of `inputs`, by these rules.
     pub(crate) fn new(alloc: Global, rules: ProtoRules, inputs: Inputs) -> ServerState
-        ensures { state_of result ≡ started rules.loose inputs.files inputs.revision }
+        ensures { state_of result ≡ started rules.loose inputs }
     {
         ServerState {
             session: Session::new(),

@@ -1,21 +1,26 @@
 -- The names that a change can touch, and the edits of names.
-use Rattle.std.specs.Prelude.{◌≡◌, ◌⊎◌, ℕ, Bool, true, false, bytes_eq, cond, List, [], ◌∷◌, ◌++◌, map, flat_map, Contains, Option, Some, None}
-use Rattle.std.specs.List.{IsDistinct, list_any}
+use Rattle.std.specs.Prelude.{◌≡◌, ◌⊎◌, ℕ, Bool, true, false, bytes_eq, cond, List, [], ◌∷◌, ◌++◌, is_some, map, flat_map, Contains, Option, Some, None}
+use Rattle.std.specs.List.{IsDistinct, filter, list_any}
 use Rattle.std.specs.BTreeSet.{BTreeSet, contains}
 use Rattle.std.specs.Cmp.Lexicographic.{slice_cmp}
 use Rattle.std.specs.Ordering.{nat_cmp}
-use Rattle.pq_view.specs.Views.{View, below, names_of, source, text_at}
+use Rattle.pq_view.specs.Views.{Texts, View, below, names_of, source, text_at}
 use Rattle.pq_view.specs.Edits.{Differs}
 use Rattle.pq_view.specs.declared.edits.Edit.{Edit}
 
--- `touched_by roots name` is the names that a change of the file `name` touches: that name, and the
--- paths of the file below `roots`
-abbrev pub touched_by : List (List ℕ) → List ℕ → List (List ℕ)
-touched_by roots name = name ∷ map (λ root. below root name) roots
+-- `open_below documents roots name` is the paths of the file `name` below `roots` at which a document
+-- is open
+abbrev pub open_below : Texts → List (List ℕ) → List ℕ → List (List ℕ)
+open_below documents roots name = filter (λ q. is_some (documents q)) (map (λ root. below root name) roots)
+
+-- `touched_by documents roots name` is the names that a change of the file `name` touches: that name,
+-- and the paths of the file below `roots` at which a document is open
+abbrev pub touched_by : Texts → List (List ℕ) → List ℕ → List (List ℕ)
+touched_by documents roots name = name ∷ open_below documents roots name
 
 -- `touched v path` is the names that a change at `path` touches
 abbrev pub touched : View → List ℕ → List (List ℕ)
-touched v path = path ∷ flat_map (touched_by v.roots) (names_of v path)
+touched v path = path ∷ flat_map (touched_by v.documents v.roots) (names_of v path)
 
 -- `SameBut path before after` is that two views differ at most at `path`
 pub record SameBut (path : List ℕ) (before after : View) : Type 0 where

@@ -24,7 +24,7 @@ reads-init g c =
       out = [];
       framed = at_first;
       stands = c.new-frames.ensures;
-      answered = subst (λ (n : ScriptState). Answered (started c.args.rules.loose c.args.inputs.files c.args.inputs.revision) [] [] None n) (sym c.new-server.ensures) (answered_none (started c.args.rules.loose c.args.inputs.files c.args.inputs.revision));
+      answered = subst (λ (n : ScriptState). Answered (started c.args.rules.loose c.args.inputs) [] [] None n) (sym c.new-server.ensures) (answered_none (started c.args.rules.loose c.args.inputs));
       consumed = consumes_none _;
       written = appends_none _;
       reads = omega arith;
@@ -35,7 +35,7 @@ reads-init g c =
 pub returns-in-Err-clause-writes : goal.returns-in-Err-clause-writes
 returns-in-Err-clause-writes g c =
     let so_far = c.reads.invariant in
-    (so_far.bytes, so_far.out, (so_far.rest, (so_far.bodies, so_far.framed, no_more (started c.args.rules.loose c.args.inputs.files c.args.inputs.revision) (state_of c.reads.server) so_far.bodies so_far.out so_far.answered)), consumes_kept _ _ _ so_far.bytes so_far.consumed c.in-Err.ensures.bytes, so_far.written)
+    (so_far.bytes, so_far.out, (so_far.rest, (so_far.bodies, so_far.framed, no_more (started c.args.rules.loose c.args.inputs) (state_of c.reads.server) so_far.bodies so_far.out so_far.answered)), consumes_kept _ _ _ so_far.bytes so_far.consumed c.in-Err.ensures.bytes, so_far.written)
 
 pub returns-in-Err-clause-read_failed : goal.returns-in-Err-clause-read_failed
 returns-in-Err-clause-read_failed g c =
@@ -47,7 +47,7 @@ returns-then-count-eq0-clause-writes g c =
     let none : take c.in-Ok.count c.read.new.buf ≡ [] = rw c.if-count-eq0.true refl in (
       so_far.bytes ++ take c.in-Ok.count c.read.new.buf,
       so_far.out,
-      rw (none, append-nil so_far.bytes) (script_at_end (started c.args.rules.loose c.args.inputs.files c.args.inputs.revision) (IsAtEnd (g.R.Read.remaining (inner_of c.read.new.self))) (reads_of c.read.new.self ≡ reads_of c.args.reader.now + max_reads) so_far.bytes so_far.bodies so_far.rest so_far.out (state_of c.reads.server) c.at_end.result so_far.framed so_far.answered (c.at_end.ensures so_far.rest so_far.stands) (c.in-Ok.ensures.bytes.1 c.if-count-eq0.true (omega arith))),
+      rw (none, append-nil so_far.bytes) (script_at_end (started c.args.rules.loose c.args.inputs) (IsAtEnd (g.R.Read.remaining (inner_of c.read.new.self))) (reads_of c.read.new.self ≡ reads_of c.args.reader.now + max_reads) so_far.bytes so_far.bodies so_far.rest so_far.out (state_of c.reads.server) c.at_end.result so_far.framed so_far.answered (c.at_end.ensures so_far.rest so_far.stands) (c.in-Ok.ensures.bytes.1 c.if-count-eq0.true (omega arith))),
       consumes_more _ _ _ so_far.bytes (take c.in-Ok.count c.read.new.buf) so_far.consumed c.in-Ok.ensures.bytes.0,
       so_far.written,
     )
@@ -74,7 +74,7 @@ returns-in_err-ending-clause-writes g c =
     rw (p.1, p.2) (
       so_far.bytes ++ piece,
       so_far.out ++ one.0,
-      script_fault (started c.args.rules.loose c.args.inputs.files c.args.inputs.revision) (IsAtEnd (g.R.Read.remaining (inner_of c.read.new.self))) (reads_of c.read.new.self ≡ reads_of c.args.reader.now + max_reads) so_far.bytes so_far.bodies so_far.rest piece so_far.out one.0 (state_of c.reads.server) (state_of c.take_piece.new.server) c.take_piece.new.frames c.in_err-ending.field-0.0 (piece_fits c.in-Ok.count c.read.new.buf (omega arith)) so_far.framed so_far.answered one.1,
+      script_fault (started c.args.rules.loose c.args.inputs) (IsAtEnd (g.R.Read.remaining (inner_of c.read.new.self))) (reads_of c.read.new.self ≡ reads_of c.args.reader.now + max_reads) so_far.bytes so_far.bodies so_far.rest piece so_far.out one.0 (state_of c.reads.server) (state_of c.take_piece.new.server) c.take_piece.new.frames c.in_err-ending.field-0.0 (piece_fits c.in-Ok.count c.read.new.buf (omega arith)) so_far.framed so_far.answered one.1,
       consumes_more _ _ _ so_far.bytes piece so_far.consumed c.in-Ok.ensures.bytes.0,
       appends_more _ _ _ so_far.out one.0 so_far.written one.2,
     )
@@ -103,7 +103,7 @@ returns-in-Some-clause-writes g c =
     let one = rw c.in-Some.is at (c.in_ok-ending.ensures.takes so_far.rest so_far.stands) in (
       so_far.bytes ++ piece,
       so_far.out ++ one.0,
-      inl (script_ended (started c.args.rules.loose c.args.inputs.files c.args.inputs.revision) so_far.bytes so_far.bodies so_far.rest piece so_far.out one.0 (state_of c.reads.server) (state_of c.take_piece.new.server) c.take_piece.new.frames c.in-Some.status (piece_fits c.in-Ok.count c.read.new.buf (omega arith)) so_far.framed so_far.answered one.1),
+      inl (script_ended (started c.args.rules.loose c.args.inputs) so_far.bytes so_far.bodies so_far.rest piece so_far.out one.0 (state_of c.reads.server) (state_of c.take_piece.new.server) c.take_piece.new.frames c.in-Some.status (piece_fits c.in-Ok.count c.read.new.buf (omega arith)) so_far.framed so_far.answered one.1),
       consumes_more _ _ _ so_far.bytes piece so_far.consumed c.in-Ok.ensures.bytes.0,
       appends_more _ _ _ so_far.out one.0 so_far.written one.2,
     )
@@ -124,7 +124,7 @@ reads-preserved g c =
       out = so_far.out ++ one.0;
       framed = frames_grow so_far.bytes so_far.bodies so_far.rest piece taken.0 (Reading taken.1) so_far.framed taken.2;
       stands = taken.3;
-      answered = answered_append (started c.args.rules.loose c.args.inputs.files c.args.inputs.revision) (state_of c.reads.server) (state_of c.take_piece.new.server) so_far.bodies taken.0 so_far.out one.0 None so_far.answered taken.4;
+      answered = answered_append (started c.args.rules.loose c.args.inputs) (state_of c.reads.server) (state_of c.take_piece.new.server) so_far.bodies taken.0 so_far.out one.0 None so_far.answered taken.4;
       consumed = consumes_more _ _ _ so_far.bytes piece so_far.consumed c.in-Ok.ensures.bytes.0;
       written = appends_more _ _ _ so_far.out one.0 so_far.written one.2;
       reads = omega (arith, c.in-Ok.ensures.reads, so_far.reads, c.requires.reads_left, c.reads-test.true);
@@ -135,4 +135,4 @@ reads-preserved g c =
 pub returns-clause-writes : goal.returns-clause-writes
 returns-clause-writes g c =
     let so_far = c.reads.invariant in
-    (so_far.bytes, so_far.out, (so_far.rest, omega (arith, so_far.reads, c.reads-test.false), (so_far.bodies, so_far.framed, no_more (started c.args.rules.loose c.args.inputs.files c.args.inputs.revision) (state_of c.reads.server) so_far.bodies so_far.out so_far.answered)), so_far.consumed, so_far.written)
+    (so_far.bytes, so_far.out, (so_far.rest, omega (arith, so_far.reads, c.reads-test.false), (so_far.bodies, so_far.framed, no_more (started c.args.rules.loose c.args.inputs) (state_of c.reads.server) so_far.bodies so_far.out so_far.answered)), so_far.consumed, so_far.written)

@@ -17,7 +17,7 @@ invariant-reads g l =
       out : List ℕ;
       framed : Frames bytes bodies (Reading rest);
       stands : l.frames ≡ Reading rest;
-      answered : Answered (started l.fn.rules.loose l.fn.inputs.files l.fn.inputs.revision) bodies out None (state_of l.server);
+      answered : Answered (started l.fn.rules.loose l.fn.inputs) bodies out None (state_of l.server);
       consumed : Consumes (g.R.Read.remaining (inner_of l.fn.reader)) (g.R.Read.remaining (inner_of l.reader)) bytes;
       written : Appends (g.W.Write.contents (inner_of l.fn.writer)) (g.W.Write.contents (inner_of l.writer)) out;
       reads : reads_of l.reader ≡ reads_of l.fn.reader + l._turn;

@@ -1,7 +1,8 @@
+use Rattle.std.specs.BTreeMap.{get_by_text}
 use Rattle.pq_view.proofs.TouchedNames.{touched_more}
 use Rattle.pq_view.proofs.touched.touched.Goals as goal
 
 pub roots-preserved : goal.roots-preserved
 roots-preserved c =
-    touched_more c.args.path.now c.as_str.result.now c.root-item.result c.args.roots.now c.roots.names.items c.push_root.new.names.items c.roots.root-index
+    touched_more (get_by_text c.args.documents.now) c.args.path.now c.as_str.result.now c.root-item.result c.args.roots.now c.roots.names.items c.push_root.new.names.items c.roots.root-index
     c.roots-test.true c.roots.invariant c.as_str.ensures.same c.root-item.is c.in_ok-push_root.ensures.added

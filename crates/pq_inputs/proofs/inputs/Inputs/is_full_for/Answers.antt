@@ -16,5 +16,6 @@ pub returns : goal.returns
 returns c =
     let files = ap (λ (t : Table). t.files) c.self.view_is in
     let few = c.self.invariant.few in
+    let limit = ap (λ (t : Table). t.limit) c.self.view_is in
     let unset : was_set c.args.self.now.files c.args.name.now ≡ false = ap (λ (s : Sources). was_set s c.args.name.now) (sym files) ∙ was_set_is c.self.inside.files c.args.name.now ∙ ap is_some (sym c.get.ensures) ∙ copied_some c.get.result ∙ sym (c.if-is_some.ensures {u = tt}) in
-    rw (unset, c.len.ensures, ← files, length_sources) (at_limit (length c.self.inside.files) 4096 few)
+    rw (unset, c.len.ensures, ← files, ← limit, length_sources) (at_limit (length c.self.inside.files) c.self.inside.limit few)

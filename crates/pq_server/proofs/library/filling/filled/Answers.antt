@@ -13,6 +13,7 @@ files-init c =
       left = omega (arith, gives.1, c.args.files.ok.0, ap length gives.0);
       set = ap (λ (t : Table). t.files) c.in-Ok.ensures ∙ sym (with_none []);
       revision = ap (λ (t : Table). t.revision) c.in-Ok.ensures;
+      limit = ap (λ (t : Table). t.limit) c.in-Ok.ensures;
     }
 
 pub files-preserved : goal.files-preserved
@@ -27,4 +28,5 @@ files-preserved c =
           ∙ ap (λ (s : Sources). with_file s file.0 (lasting file.1)) so_far.set
           ∙ sym (with_more [] c.files.yielded file);
       revision = omega (arith, c.in_ok-set_file.ensures.revision, so_far.revision, length-append c.files.yielded (file ∷ []));
+      limit = c.in_ok-set_file.ensures.limit ∙ so_far.limit;
     }

@@ -14,5 +14,5 @@ returns g c =
       c.in_ok-files.files.items,
       subst (λ (names : List (List ℕ)). IsPermutation (map string_bytes c.args.names.items) names) {x = map string_bytes ordered} named (IsPermutation-map string_bytes c.args.names.items ordered c.in_ok-ordered.ensures.same),
       subst (λ (names : List (List ℕ)). IsSorted (slice_cmp nat_cmp) names) {x = map string_bytes ordered} named (texts_in_order ordered c.in_ok-ordered.ensures.sorted),
-      (c.in_ok-inputs.ensures.files, c.in_ok-inputs.ensures.revision),
+      (c.in_ok-inputs.ensures.files, c.in_ok-inputs.ensures.revision, c.in_ok-inputs.ensures.limit),
     )

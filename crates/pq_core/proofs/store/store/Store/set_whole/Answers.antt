@@ -26,7 +26,7 @@ invariant_of-self g c =
     let may : (account : AccountView g.row.R-Key.Denot g.row.R-Value.Denot g.row.M.Denot) × (found c.self.inside.accounts.items c.args.client ≡ Some account) =
     subst (λ (v : StoreView g.row.R.Denot g.row.R-Key.Denot g.row.R-Part.Denot g.row.R-Value.Denot g.row.M.Denot). (account : AccountView g.row.R-Key.Denot g.row.R-Value.Denot g.row.M.Denot) × (found v.accounts.items c.args.client ≡ Some account)) (sym c.self.view_is) c.requires.may in
     let told = c.in-Ok.ensures {u = tt} in
-    let table = table_is c.set.new.self c.self.inside.inputs (of_body c.args.file c.args.durability (set (option_map string_bytes c.args.text))) (rw c.as_str.ensures.same at told.files) (told.revision.1 ∙ told.revision.0) told.history in
+    let table = table_is c.set.new.self c.self.inside.inputs (of_body c.args.file c.args.durability (set (option_map string_bytes c.args.text))) (rw c.as_str.ensures.same at told.files) (told.revision.1 ∙ told.revision.0) told.history told.limit in
     let moved = edit_moved g.R.Key.Ord.cmp (g.R.Rules.machine c.self.inside.memos.rules) g.M.Stamp.point told_puts
     (held (store_of c.self.inside))
     (record (held (store_of c.self.inside)) { inputs = c.set.new.self })
@@ -54,7 +54,7 @@ returns-in-Ok-clause-moved g c =
     let may : (account : AccountView g.row.R-Key.Denot g.row.R-Value.Denot g.row.M.Denot) × (found c.self.inside.accounts.items c.args.client ≡ Some account) =
     subst (λ (v : StoreView g.row.R.Denot g.row.R-Key.Denot g.row.R-Part.Denot g.row.R-Value.Denot g.row.M.Denot). (account : AccountView g.row.R-Key.Denot g.row.R-Value.Denot g.row.M.Denot) × (found v.accounts.items c.args.client ≡ Some account)) (sym c.self.view_is) c.requires.may in
     let told = c.in-Ok.ensures {u = tt} in
-    let table = table_is c.set.new.self c.self.inside.inputs (of_body c.args.file c.args.durability (set (option_map string_bytes c.args.text))) (rw c.as_str.ensures.same at told.files) (told.revision.1 ∙ told.revision.0) told.history in
+    let table = table_is c.set.new.self c.self.inside.inputs (of_body c.args.file c.args.durability (set (option_map string_bytes c.args.text))) (rw c.as_str.ensures.same at told.files) (told.revision.1 ∙ told.revision.0) told.history told.limit in
     rw (← c.self.view_is)
     (goes_by g.R.Key.Ord.cmp (g.R.Rules.machine c.self.inside.memos.rules) g.M.Stamp.point _ _ _ (all_same _ _ (λ k. refl))
     (λ l s. edit_moved g.R.Key.Ord.cmp (g.R.Rules.machine c.self.inside.memos.rules) g.M.Stamp.point told_puts

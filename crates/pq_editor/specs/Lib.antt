@@ -1,0 +1,6 @@
+pub mod Json
+pub mod Imports
+pub mod Links
+pub mod Faults
+pub mod Said
+pub mod Reports
