@@ -19,12 +19,17 @@ mod fetching;
 mod files;
 mod line;
 mod lines;
+mod logger;
 mod looker;
 mod output;
 mod pusher;
 mod reader;
+mod roots;
 mod rounds;
 mod session;
+mod surveyor;
+mod tree;
+mod walker;
 mod watching;
 mod writer;
 

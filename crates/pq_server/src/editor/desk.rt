@@ -1,29 +1,48 @@
 //! What an editor's messages and the disk ask for, done in the order in which they come.
 //!
 //! The view (`pq_view`) decides which text a name has: the desk passes each event to it, and makes the
-//! edits that it answers. The texts of open documents are of Low durability, those on the disk of
-//! High durability. `greeting` takes the roots, `edits` handles documents and files, and `asks` hands in
-//! requests. The reader and the looker share the desk under its lock.
+//! edits that it answers. Only the names that open documents reach are in the sources (`reach`): `found`
+//! looks for their files below the roots, and `search` says when a walk through the folders is to show
+//! further roots. `greeting` takes roots, `edits` handles documents and files, `asks` hands in requests,
+//! `links` answers what is asked of imports, `said` says what a user has to know, and `survey` answers
+//! what is asked about all files.
+//!
+//! The texts of open documents are of Low durability, those on the disk of High durability. The reader,
+//! the looker, the walker and the surveyor share the desk under its lock.
 mod asks;
 mod edits;
+mod found;
 mod greeting;
+mod links;
+mod reach;
+mod said;
+mod search;
+mod survey;
 
+pub(crate) use crate::editor::desk::reach::Reach;
+use crate::editor::desk::search::Search;
+use crate::editor::desk::survey::Asking;
 use crate::editor::disk::Disk;
 use crate::editor::fetching::Fetcher;
 use crate::editor::files::Files;
 use crate::editor::line::Line;
 use crate::editor::lines::Lines;
-use crate::editor::looker::Call;
 use crate::editor::output::Output;
+use crate::editor::roots::Roots;
 use crate::editor::rounds::{Round, Rounds};
+use crate::editor::surveyor::Survey;
+use crate::editor::walker::Walk;
 use crate::serving::floor::Floor;
 use crossbeam_channel::Sender;
+use pq_core::Request;
 use pq_frame::Message;
 use pq_mail::Post;
 use pq_proto::ProtoKey;
-use pq_session::{Event, Item, Memory, ScriptFault, Session, WATCH_FILES, event_of, without_root};
+use pq_session::{
+    Event, Item, Memory, ScriptFault, Session, event_of, with_plain_uri, without_root,
+};
 use std::alloc::Global;
-use std::collections::BTreeSet;
+use std::collections::VecDeque;
 use std::io::Write;
 use std::sync::{Mutex, Wait};
 use std::thread::Threads;
@@ -46,8 +65,29 @@ pub(crate) struct Ways<Q> {
     pub(crate) receipts: Sender<Q>,
     /// To the pusher: it rings after each round.
     pub(crate) bell: Sender<()>,
-    /// To the looker.
-    pub(crate) calls: Sender<Call>,
+    /// To the looker: it is to look now.
+    pub(crate) calls: Sender<()>,
+    /// To the walker.
+    pub(crate) walks: Sender<Walk>,
+    /// To the surveyor.
+    pub(crate) surveys: Sender<Survey>,
+    /// To the logger: the client takes messages.
+    pub(crate) log: Sender<()>,
+}
+
+/// What a client takes, as it said in `initialize`, and what it was sent of it.
+#[derive(Clone, Copy)]
+struct Takes {
+    /// Whether it takes pushed diagnostics alone.
+    pushes: bool,
+    /// Whether it can be asked to watch files, and was not.
+    watch: bool,
+    /// Whether it can be asked to ask again for all diagnostics.
+    refresh: bool,
+    /// Whether it shows progress.
+    progress: bool,
+    /// Whether it has sent `initialized`.
+    is_ready: bool,
 }
 
 /// What the reader of an editor's session holds, over a client of the hall `floor`.
@@ -64,24 +104,26 @@ pub(crate) struct Desk<'a, F: Floor<H>, H, W> {
     files: &'a Mutex<Files>,
     lines: Lines,
     fetcher: Fetcher,
-    /// The roots that the command line names. If there are some, those of the client do not count.
-    given: Vec<String>,
-    /// The names of the files that were set, of which the hall takes `MAX_FILES`.
-    known: BTreeSet<String>,
-    /// Whether a line has said that there are too many files.
-    has_said_too_many: bool,
+    roots: Roots,
+    reach: Reach,
+    search: Search,
+    /// The requests that wait for the first walk, in their order.
+    held: VecDeque<Request<ProtoKey>>,
+    /// What was asked about all files.
+    asking: Asking,
     /// The revision of the last edit.
     revision: u64,
     /// Whether an edit was made, or a document was opened, changed or closed, since the last round.
     has_moved: bool,
     /// Whether a document may have another name than in the last round.
     has_renamed: bool,
-    /// Whether the client takes pushed diagnostics alone.
-    takes_pushes: bool,
-    /// Whether the client can be asked to watch files, and was not.
-    can_watch: bool,
-    /// Whether the client has sent `initialized`.
-    is_ready: bool,
+    takes: Takes,
+    /// Whether the client is to ask again for all diagnostics.
+    is_refresh_due: bool,
+    /// The requests to the client that it has not answered. While there are some, it is not asked to ask
+    /// again.
+    unanswered: u32,
+    said: said::Said,
 }
 
 impl<'a, F, H, W> Desk<'a, F, H, W>
@@ -90,7 +132,7 @@ where
     H: Threads + Wait + Clock + Disk + AllocGlobal + Copy + Drop + Send + Sync + 'static,
     W: Write + Copy,
 {
-    /// The desk of a session whose client has sent nothing. `given` are the roots of the command line.
+    /// The desk of a session whose client has sent nothing. `roots` are those of the command line.
     pub(crate) fn new(
         rt: &'a H,
         alloc: Global,
@@ -100,7 +142,7 @@ where
         output: &'a Output<W>,
         files: &'a Mutex<Files>,
         lines: Lines,
-        given: Vec<String>,
+        roots: Roots,
     ) -> Result<Desk<'a, F, H, W>, Memory> {
         let fetcher = Fetcher::new(alloc, lines.copy()?);
         Ok(Desk {
@@ -114,15 +156,24 @@ where
             files,
             lines,
             fetcher,
-            given,
-            known: BTreeSet::new(alloc),
-            has_said_too_many: false,
+            roots,
+            reach: Reach::new(alloc),
+            search: Search::new(),
+            held: VecDeque::new(alloc),
+            asking: Asking::new(alloc),
             revision: 0,
             has_moved: false,
             has_renamed: false,
-            takes_pushes: false,
-            can_watch: false,
-            is_ready: false,
+            takes: Takes {
+                pushes: false,
+                watch: false,
+                refresh: false,
+                progress: false,
+                is_ready: false,
+            },
+            is_refresh_due: false,
+            unanswered: 0,
+            said: said::Said::new(),
         })
     }
 
@@ -131,11 +182,12 @@ where
         self.ways = None;
     }
 
-    /// Hands on what was left to do: a round of pushes, and the request to watch files.
+    /// Hands on what was left to do: a round of pushes, and requests to the client. While lists are held
+    /// there is no round.
     pub(crate) fn hand_on(&mut self) -> Result<(), ScriptFault> {
-        if self.is_ready && self.can_watch {
-            self.can_watch = false;
-            self.output.send(self.rt, WATCH_FILES)?;
+        self.ask_client()?;
+        if self.search.is_held(self.rt) {
+            return Ok(());
         }
         if let Some(round) = self.next_round()? {
             self.rounds.put(self.rt, round);
@@ -149,7 +201,7 @@ where
 
     /// What is to be pushed since the last round, if the client takes pushed diagnostics alone.
     fn next_round(&mut self) -> Result<Option<Round>, Memory> {
-        if !self.takes_pushes || !self.has_moved {
+        if !self.takes.pushes || !self.has_moved {
             return Ok(None);
         }
         self.has_moved = false;
@@ -158,7 +210,7 @@ where
             self.has_renamed = false;
             files.name_documents()?;
         }
-        let asked = files.documents.asked(&self.known)?;
+        let asked = files.documents.asked(&self.reach)?;
         Ok(Some(Round {
             revision: self.revision,
             asked,
@@ -169,7 +221,7 @@ where
     fn call_looker(&self) {
         if let Some(ways) = &self.ways {
             // A call that was not heard yet is for this, too.
-            let _ = ways.calls.try_send(self.rt, Call::Look);
+            let _ = ways.calls.try_send(self.rt, ());
         }
     }
 
@@ -182,6 +234,9 @@ where
                 step => return Ok(step),
             }
         }
+        if !self.settle()? {
+            return Ok(Step::Overtaken);
+        }
         self.hand_on()?;
         Ok(Step::GoesOn)
     }
@@ -190,18 +245,22 @@ where
     fn handle(&mut self, body: &[u8]) -> Result<Step, ScriptFault> {
         let message = Message::read(self.alloc, body)?;
         let event = event_of(self.alloc, &message)?;
+        let message = with_plain_uri(self.alloc, message)?;
         let was_served = self.session.root().is_some();
         let item = self.session.on(self.alloc, without_root(message))?;
         let is_served = self.session.root().is_some();
         match event {
             Event::Greets(greeting) => {
-                if !was_served && is_served && !self.greet(greeting)? {
-                    return Ok(Step::Overtaken);
+                if was_served || !is_served {
+                    return self.carry_out(Event::Other, item);
                 }
-                self.carry_out(Event::Other, item)
+                self.greet_first(greeting, item)
             }
             // After this request nothing is served.
             Event::ShutsDown => {
+                if was_served && !self.let_go()? {
+                    return Ok(Step::Overtaken);
+                }
                 if was_served {
                     self.output.end_lists(self.rt);
                 }
@@ -216,11 +275,24 @@ where
     fn carry_out(&mut self, event: Event, item: Item<ProtoKey>) -> Result<Step, ScriptFault> {
         match item {
             Item::Ask(request) => self.ask(request),
-            Item::Say(request) => self.hand_in(Post::Ask(request)),
-            Item::Withdraw(label) => self.hand_in(Post::Withdraw(label)),
+            Item::Say(request) => self.say_or_answer(event, request),
+            Item::Withdraw(label) => self.withdraw(label),
             Item::Edit(change) => self.edit(event, change),
             Item::Ignore => self.notice(event),
             Item::End(status) => Ok(Step::Finish(status)),
+        }
+    }
+
+    /// Hands in the fixed reply `request`. What the editor alone is answered takes its place.
+    fn say_or_answer(
+        &mut self,
+        event: Event,
+        request: Request<ProtoKey>,
+    ) -> Result<Step, ScriptFault> {
+        match event {
+            Event::AsksLinks { label, uri } => self.answer_links(label, uri.as_str()),
+            Event::AsksWorkspace { label, has } => self.ask_workspace(label, has),
+            _ => self.hand_in(Post::Ask(request)),
         }
     }
 }

@@ -1,10 +1,11 @@
 //! The documents that an editor has open.
+use crate::editor::desk::Reach;
 use crate::editor::rounds::Asked;
+use pq_editor::FileFault;
 use pq_inputs::MAX_TEXT;
 use pq_session::Memory;
 use pq_view::{Owed, Text};
 use std::alloc::Global;
-use std::collections::BTreeSet;
 
 /// A document that an editor has open.
 #[derive(Drop)]
@@ -29,6 +30,17 @@ impl Document {
     /// Whether its text is short enough for a file.
     pub(crate) fn has_room(&self) -> bool {
         self.text.as_str().len() <= MAX_TEXT
+    }
+
+    /// Why it is not read, if it is not. `reach` are the names for which there is room.
+    pub(crate) fn fault(&self, reach: &Reach) -> Option<FileFault> {
+        if !self.has_room() {
+            return Some(FileFault::TooLong);
+        }
+        if !self.name.as_str().is_empty() && !reach.has(self.name.as_str()) {
+            return Some(FileFault::TooMany);
+        }
+        None
     }
 }
 
@@ -100,25 +112,40 @@ impl Documents {
         Ok(())
     }
 
-    /// The documents whose diagnostics are asked for: those whose texts are short enough and whose names
-    /// are among `known`.
-    pub(crate) fn asked(&self, known: &BTreeSet<String>) -> Result<Vec<Asked>, Memory> {
+    /// The version of the document whose file is at `path`, if there is one that has a version.
+    pub(crate) fn version_at(&self, path: &str) -> Option<i64> {
+        match self.at(path) {
+            Some(document) => document.version,
+            None => None,
+        }
+    }
+
+    /// The paths of the files of all documents.
+    pub(crate) fn paths(&self) -> Result<Vec<Text>, Memory> {
+        let mut paths = Vec::new(self.alloc);
+        for document in &self.list {
+            paths.push(document.path.copy()?)?;
+        }
+        Ok(paths)
+    }
+
+    /// What is asked for each document. `reach` are the names for which there is room.
+    pub(crate) fn asked(&self, reach: &Reach) -> Result<Vec<Asked>, Memory> {
         let mut asked = Vec::new(self.alloc);
         for document in &self.list {
-            if document.has_room() && known.contains(document.name.as_str()) {
-                asked.push(asked_of(self.alloc, document)?)?;
-            }
+            asked.push(asked_of(self.alloc, document, reach)?)?;
         }
         Ok(asked)
     }
 }
 
 /// What is asked for `document`.
-fn asked_of(alloc: Global, document: &Document) -> Result<Asked, Memory> {
+fn asked_of(alloc: Global, document: &Document, reach: &Reach) -> Result<Asked, Memory> {
     Ok(Asked {
         number: document.number,
         uri: String::from_str(alloc, document.uri.as_str())?,
         name: document.name.copy()?,
         version: document.version,
+        fault: document.fault(reach),
     })
 }

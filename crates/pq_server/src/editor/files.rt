@@ -2,11 +2,15 @@
 //!
 //! Who changes a document or the view is the desk alone. The writer asks for URIs meanwhile, so both
 //! take the lock, and nobody waits for anything under it.
+use crate::editor::desk::Reach;
 use crate::editor::documents::Documents;
+use crate::editor::watching::Watched;
 use crate::serving::floor::Places;
+use pq_editor::FileFault;
 use pq_session::{Memory, Root};
-use pq_view::{Text, View, shown_path};
+use pq_view::{Stamp, Text, View, shown_path};
 use std::alloc::Global;
+use std::collections::BTreeMap;
 use std::mem;
 use std::sync::{Mutex, Wait};
 
@@ -19,6 +23,12 @@ pub(crate) struct Files {
     /// The paths of files that were read beside the looks: the next look has them read again, whether it
     /// finds them new or not.
     pub(crate) touched: Vec<Text>,
+    /// The paths that are watched since the last look, with what was seen of them.
+    watched: Vec<Watched>,
+    /// Why files on the disk are not read, by their paths.
+    faults: BTreeMap<String, FileFault>,
+    /// What is said behind the message of an import that is not found: the roots as they are shown.
+    pub(crate) looked: String,
     /// The paths of the roots, with all links followed.
     pub(crate) roots: Vec<Text>,
     /// The paths of the roots as the editor or the command line writes them, in the same order.
@@ -33,6 +43,9 @@ impl Files {
             view: View::new(alloc),
             documents: Documents::new(alloc),
             touched: Vec::new(alloc),
+            watched: Vec::new(alloc),
+            faults: BTreeMap::new(alloc),
+            looked: String::new(alloc),
             roots: Vec::new(alloc),
             faces: Vec::new(alloc),
         }
@@ -42,11 +55,59 @@ impl Files {
     /// the editor writes it.
     pub(crate) fn uri_of(&self, name: &str) -> Result<String, Memory> {
         let path = self.view.path_of(name)?;
-        if let Some(uri) = self.documents.uri_at(path.as_str()) {
+        self.uri_at(path.as_str())
+    }
+
+    /// The URI of the file at `path`: that of the open document, else that of the path below the root as
+    /// the editor writes it.
+    pub(crate) fn uri_at(&self, path: &str) -> Result<String, Memory> {
+        if let Some(uri) = self.documents.uri_at(path) {
             return String::from_str(self.alloc, uri);
         }
-        let shown = shown_path(self.alloc, &self.roots, &self.faces, path.as_str())?;
+        let shown = shown_path(self.alloc, &self.roots, &self.faces, path)?;
         Root::at(self.alloc, "")?.uri_of(self.alloc, shown.as_str())
+    }
+
+    /// Watches `path` from the next look on. It was seen with `stamp` at the second `now`.
+    pub(crate) fn watch(
+        &mut self,
+        path: Text,
+        stamp: Option<Stamp>,
+        now: i64,
+    ) -> Result<(), Memory> {
+        self.watched.push(Watched { path, stamp, now })?;
+        Ok(())
+    }
+
+    /// Takes the paths that are watched since the last look.
+    pub(crate) fn take_watched(&mut self) -> Vec<Watched> {
+        mem::replace(&mut self.watched, Vec::new(self.alloc))
+    }
+
+    /// The file on the disk at `path` is not read because of `fault`, if there is one.
+    pub(crate) fn set_fault(
+        &mut self,
+        path: &str,
+        fault: Option<FileFault>,
+    ) -> Result<(), Memory> {
+        match fault {
+            Some(fault) => {
+                let path = String::from_str(self.alloc, path)?;
+                self.faults.insert(path, fault)?;
+            }
+            None => {
+                self.faults.remove(path);
+            }
+        }
+        Ok(())
+    }
+
+    /// Why the file at `path` is not read, if it is not: that of its document, else that of the disk.
+    pub(crate) fn fault_at(&self, reach: &Reach, path: &str) -> Option<FileFault> {
+        match self.documents.at(path) {
+            Some(document) => document.fault(reach),
+            None => self.faults.get(path).copied(),
+        }
     }
 
     /// Takes the paths that are to be read again.
@@ -79,5 +140,10 @@ pub(crate) struct Shown<'a, H> {
 impl<'a, H: Wait> Places for Shown<'a, H> {
     fn uri_of(&self, name: &str) -> Result<String, Memory> {
         self.files.lock(self.rt).uri_of(name)
+    }
+
+    fn looked(&self) -> Result<String, Memory> {
+        let files = self.files.lock(self.rt);
+        String::from_str(files.alloc, files.looked.as_str())
     }
 }

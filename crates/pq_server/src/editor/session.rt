@@ -9,18 +9,21 @@ use crate::editor::disk::Disk;
 use crate::editor::files::Files;
 use crate::editor::line::Line;
 use crate::editor::lines::Lines;
-use crate::editor::looker::{Call, look_all};
+use crate::editor::logger::log_all;
+use crate::editor::looker::look_all;
 use crate::editor::output::Output;
 use crate::editor::pusher::push_all;
 use crate::editor::reader::read_all_messages;
+use crate::editor::roots::{Roots, place_of};
 use crate::editor::rounds::Rounds;
+use crate::editor::surveyor::{Survey, survey_all};
+use crate::editor::walker::{Walk, walk_all};
 use crate::editor::writer::write_all_replies;
-use crate::library::no_library;
 use crate::serving::floor::{Floor, Texts, Works};
 use crossbeam_channel::{Receiver, Sender};
 use pq_hall::{BoardName, Client, Gate, Hall, HallRules, Loose, NewBoard, OneValue};
-use pq_inputs::Inputs;
-use pq_session::ScriptFault;
+use pq_inputs::{Inputs, MOST_FILES};
+use pq_session::{Memory, ScriptFault};
 use std::alloc::Global;
 use std::io::{Read, Write};
 use std::marker::Brand;
@@ -31,6 +34,9 @@ use std::time::{Clock, Duration};
 
 /// The receipts that may wait for the writer.
 const RECEIPTS: usize = 32;
+
+/// The requests about all files that may wait for the surveyor.
+const SURVEYS: usize = 16;
 
 /// How long the replies that are owed at the end of a session are waited for, in milliseconds.
 const PATIENCE: u64 = 50;
@@ -54,8 +60,14 @@ pub(crate) struct Setup {
     pub(crate) workers: u8,
     /// The roots that the command line names, as it writes them.
     pub(crate) roots: Vec<String>,
+    /// Whether these are all roots but the last.
+    pub(crate) only_roots: bool,
+    /// The folder that is the last root, if there is one.
+    pub(crate) include: Option<String>,
     /// Where the session says what it passes over.
     pub(crate) lines: Lines,
+    /// The lines that it said, for the log of the editor.
+    pub(crate) said: Receiver<String>,
 }
 
 /// Serves one editor from `input` to `output`. Braces are read: a text with an error has the
@@ -146,9 +158,7 @@ where
     W: Write + Copy + Send + Sync,
     G: Gate<HallRules<Loose>> + Sync,
 {
-    let Ok(inputs) = no_library(alloc) else {
-        return Err(ScriptFault::Memory);
-    };
+    let inputs = Inputs::with_limit(alloc, MOST_FILES)?;
     match NewBoard::new(alloc) {
         Ok(board) => serve_in::<HallRules<Loose>, Brand, R, I, W, G>(
             rt,
@@ -216,11 +226,7 @@ where
     W: Write + Copy + Send + Sync,
     G: Sync,
 {
-    let Setup {
-        workers,
-        roots,
-        lines,
-    } = setup;
+    let workers = setup.workers;
     thread::scope(thread::scope_env(), rt, move |scope| {
         let mut has_all = true;
         for _ in 0..workers {
@@ -229,7 +235,7 @@ where
             }
         }
         let outcome = if has_all {
-            run_clients(rt, alloc, floor, input, output, roots, lines, ends)
+            run_clients(rt, alloc, floor, input, output, setup, ends)
         } else {
             Err(ScriptFault::Memory)
         };
@@ -238,8 +244,8 @@ where
     })
 }
 
-/// Serves the session over two clients of the hall: the editor, and the pusher. Both are closed when it
-/// returns, but where an allocation failed before the threads were started: then the end of the hall ends
+/// Serves the session over three clients of the hall: the editor, the pusher and the surveyor. All are
+/// closed when it returns, but where an allocation failed before the threads were started: then the end of the hall ends
 /// them.
 fn run_clients<F, R, I, W>(
     rt: &R,
@@ -247,8 +253,7 @@ fn run_clients<F, R, I, W>(
     floor: &F,
     input: I,
     output: W,
-    roots: Vec<String>,
-    lines: Lines,
+    setup: Setup,
     ends: &Ends,
 ) -> Result<u8, ScriptFault>
 where
@@ -257,6 +262,8 @@ where
     I: Read + Drop,
     W: Write + Copy + Send + Sync,
 {
+    let roots = roots_of(rt, alloc, &setup)?;
+    let Setup { lines, said, .. } = setup;
     let output = Output::new(alloc, output);
     let rounds = Rounds::new();
     let files = Mutex::new(Files::new(alloc));
@@ -267,15 +274,27 @@ where
         floor.close(rt, editor);
         return Err(ScriptFault::Memory);
     };
+    let Ok((surveying, surveying_ends)) = floor.join(rt) else {
+        floor.close(rt, editor);
+        floor.close(rt, pushing);
+        return Err(ScriptFault::Memory);
+    };
     let (line, take) = Line::new(rt, floor, editor, editor_ends);
     let (pushing_line, pushing_take) = Line::new(rt, floor, pushing, pushing_ends);
+    let (surveying_line, surveying_take) = Line::new(rt, floor, surveying, surveying_ends);
     let (receipts, owed) = crossbeam_channel::bounded(alloc, RECEIPTS)?;
     let (bell, bell_heard) = crossbeam_channel::bounded(alloc, 1)?;
-    let (calls, calls_heard) = crossbeam_channel::bounded(alloc, 2)?;
+    let (calls, calls_heard) = crossbeam_channel::bounded(alloc, 1)?;
+    let (walks, walks_heard) = crossbeam_channel::bounded(alloc, 1)?;
+    let (surveys, surveys_heard) = crossbeam_channel::bounded(alloc, SURVEYS)?;
+    let (log, log_heard) = crossbeam_channel::bounded(alloc, 1)?;
     let ways = Ways {
         receipts,
         bell,
         calls,
+        walks,
+        surveys,
+        log,
     };
     let heard = Heard {
         take,
@@ -283,17 +302,40 @@ where
         pushing_line,
         pushing_take,
         bell: bell_heard,
+        surveying_line,
+        surveying_take,
+        surveys: surveys_heard,
         calls: calls_heard,
         lines: lines.copy()?,
+        walks: walks_heard,
+        walking_lines: lines.copy()?,
+        log: log_heard,
+        said,
     };
     let desk = Desk::new(
         rt, alloc, line, ways, &rounds, &output, &files, lines, roots,
     )?;
     let desk = Mutex::new(desk);
-    let clients = Clients { editor, pushing };
+    let clients = Clients {
+        editor,
+        pushing,
+        surveying,
+    };
     run_threads(
         rt, alloc, floor, clients, &desk, heard, &rounds, &output, &files, input, ends,
     )
+}
+
+/// The roots of the command line that `setup` has.
+fn roots_of<D: Disk>(disk: &D, alloc: Global, setup: &Setup) -> Result<Roots, Memory> {
+    let mut roots = Roots::new(alloc, setup.only_roots);
+    for face in &setup.roots {
+        roots.add_given(place_of(disk, alloc, face.as_str())?)?;
+    }
+    if let Some(include) = &setup.include {
+        roots.set_last(place_of(disk, alloc, include.as_str())?);
+    }
+    Ok(roots)
 }
 
 /// The clients of a session.
@@ -301,6 +343,7 @@ where
 struct Clients {
     editor: Client,
     pushing: Client,
+    surveying: Client,
 }
 
 /// What the threads beside the reader get.
@@ -313,9 +356,19 @@ struct Heard<'a, F: Floor<H>, H> {
     pushing_line: Line<'a, F, H>,
     pushing_take: F::Take,
     bell: Receiver<()>,
+    /// For the surveyor.
+    surveying_line: Line<'a, F, H>,
+    surveying_take: F::Take,
+    surveys: Receiver<Survey>,
     /// For the looker.
-    calls: Receiver<Call>,
+    calls: Receiver<()>,
     lines: Lines,
+    /// For the walker.
+    walks: Receiver<Walk>,
+    walking_lines: Lines,
+    /// For the logger.
+    log: Receiver<()>,
+    said: Receiver<String>,
 }
 
 /// Runs the threads of the session. Returns when they have ended.
@@ -345,8 +398,8 @@ where
     })
 }
 
-/// Runs the threads of the session: it reads on this thread. Replies, lists and looks at the disk have
-/// three others of `scope`.
+/// Runs the threads of the session: it reads on this thread. Replies, lists, looks at the disk, walks,
+/// surveys and the log have six others of `scope`.
 fn run_in<'s, 'b: 's, E, F, R, I, W>(
     scope: &Scope<'s, E>,
     rt: &'s R,
@@ -371,15 +424,26 @@ where
     I: Read + Drop,
     W: Write + Copy + Send + Sync + 's,
 {
-    let Clients { editor, pushing } = clients;
+    let Clients {
+        editor,
+        pushing,
+        surveying,
+    } = clients;
     let Heard {
         take,
         owed,
         pushing_line,
         pushing_take,
         bell,
+        surveying_line,
+        surveying_take,
+        surveys,
         calls,
         lines,
+        walks,
+        walking_lines,
+        log,
+        said,
     } = heard;
     let writes = scope
         .spawn(move || {
@@ -409,7 +473,39 @@ where
             warned(rt, ends, looked)
         })
         .ok();
-    let read = if writes.is_some() && pushes.is_some() && looks.is_some() {
+    let walked = scope
+        .spawn(move || {
+            let walked = walk_all(rt, alloc, desk, walking_lines, walks);
+            warned(rt, ends, walked)
+        })
+        .ok();
+    let surveyed = scope
+        .spawn(move || {
+            let surveyed = survey_all(
+                rt,
+                alloc,
+                floor,
+                desk,
+                surveying_line,
+                surveying_take,
+                surveys,
+            );
+            warned(rt, ends, surveyed)
+        })
+        .ok();
+    let logged = scope
+        .spawn(move || {
+            let logged = log_all(rt, alloc, log, said, output);
+            warned(rt, ends, logged)
+        })
+        .ok();
+    let has_all = writes.is_some()
+        && pushes.is_some()
+        && looks.is_some()
+        && walked.is_some()
+        && surveyed.is_some()
+        && logged.is_some();
+    let read = if has_all {
         read_all_messages(rt, desk, input)
     } else {
         Err(ScriptFault::Memory)
@@ -417,13 +513,20 @@ where
     let _ = ends.try_send(rt, End::Soon(status_of(read)));
     desk.lock(rt).end();
     floor.close(rt, pushing);
+    floor.close(rt, surveying);
     let written = outcome_of(rt, writes);
     floor.close(rt, editor);
     let pushed = outcome_of(rt, pushes);
     let looked = outcome_of(rt, looks);
+    let walked = outcome_of(rt, walked);
+    let surveyed = outcome_of(rt, surveyed);
+    let logged = outcome_of(rt, logged);
     written?;
     pushed?;
     looked?;
+    walked?;
+    surveyed?;
+    logged?;
     status_of(read)
 }
 

@@ -4,10 +4,11 @@ use crate::editor::disk::Disk;
 use crate::editor::line::Handed;
 use crate::library::joined;
 use crate::serving::floor::Floor;
-use pq_core::Request;
+use pq_core::{Label, Request, Want};
+use pq_editor::{FileFault, fault_report};
 use pq_mail::Post;
-use pq_proto::ProtoKey;
-use pq_session::{Memory, ScriptFault, asked_file, renamed};
+use pq_proto::{Place, ProtoKey};
+use pq_session::{Memory, ScriptFault, asked_file, renamed, result_text};
 use pq_view::Text;
 use std::io::Write;
 use std::sync::Wait;
@@ -20,21 +21,114 @@ where
     H: Threads + Wait + Clock + Disk + AllocGlobal + Copy + Drop + Send + Sync + 'static,
     W: Write + Copy,
 {
-    /// Hands in `request`, about the file that its path has below the roots.
+    /// Hands in `request`, about the file that its path has below the roots. While lists are held it
+    /// waits, with all that come after it.
     pub(super) fn ask(&mut self, request: Request<ProtoKey>) -> Result<Step, ScriptFault> {
-        let name = match asked_file(&request) {
-            Some(file) => self.name_of(file)?,
+        let path = match asked_file(&request) {
+            Some(file) => self.path_below_all(file)?,
             None => return self.hand_in(Post::Ask(request)),
         };
+        if !self.files.lock(self.rt).view.is_open(path.as_str()) {
+            self.want_path(&path)?;
+        }
+        if !self.settle()? {
+            return Ok(Step::Overtaken);
+        }
+        if self.search.is_held(self.rt) {
+            return self.hold(request);
+        }
+        self.ask_now(request)
+    }
+
+    /// Keeps `request` until lists are held no longer.
+    fn hold(&mut self, request: Request<ProtoKey>) -> Result<Step, ScriptFault> {
+        match self.held.push_back(request) {
+            Ok(()) => Ok(Step::GoesOn),
+            Err(_) => Err(ScriptFault::Memory),
+        }
+    }
+
+    /// Hands in the requests that wait. Returns whether the session goes on.
+    pub(super) fn release(&mut self) -> Result<bool, ScriptFault> {
+        for _ in 0..self.held.len() {
+            let Some(request) = self.held.pop_front() else {
+                return Ok(true);
+            };
+            if self.ask_now(request)? != Step::GoesOn {
+                return Ok(false);
+            }
+        }
+        Ok(true)
+    }
+
+    /// Withdraws the request of `label`. If requests wait, they are handed in before.
+    pub(super) fn withdraw(&mut self, label: Label) -> Result<Step, ScriptFault> {
+        if !self.release()? {
+            return Ok(Step::Overtaken);
+        }
+        self.hand_in(Post::Withdraw(label))
+    }
+
+    /// Hands in `request`. What the sources do not answer is answered at once: the diagnostics of a file
+    /// that is not read, and the definition at the string of an import.
+    fn ask_now(&mut self, request: Request<ProtoKey>) -> Result<Step, ScriptFault> {
+        let path = match asked_file(&request) {
+            Some(file) => self.path_below_all(file)?,
+            None => return self.hand_in(Post::Ask(request)),
+        };
+        if let Some(text) = self.text_of_own(&request, &path)? {
+            let text = result_text(self.alloc, &request.label, text.as_str())?;
+            return self.reply(request.label, text);
+        }
+        let name = self.files.lock(self.rt).view.name_of(path.as_str())?;
         let request = renamed(self.alloc, request, name.as_str())?;
         self.hand_in(Post::Ask(request))
     }
 
-    /// The name of the file at the path `/` and `file`.
-    fn name_of(&self, file: &str) -> Result<Text, Memory> {
+    /// The result of `request` about the file at `path`, where the sources do not answer it.
+    fn text_of_own(
+        &self,
+        request: &Request<ProtoKey>,
+        path: &Text,
+    ) -> Result<Option<String>, Memory> {
+        match &request.want {
+            Want::Demand(ProtoKey::Diagnostics(_)) => self.report_of_fault(path),
+            Want::Demand(ProtoKey::Definition(_, place)) => self.import_text(path, *place),
+            _ => Ok(None),
+        }
+    }
+
+    /// The report of the file at `path`, if it is not read.
+    fn report_of_fault(&self, path: &Text) -> Result<Option<String>, Memory> {
+        match self.fault_at(path.as_str()) {
+            Some(fault) => Ok(Some(fault_report(self.alloc, fault)?)),
+            None => Ok(None),
+        }
+    }
+
+    /// Why the file at `path` is not read, if it is not.
+    pub(super) fn fault_at(&self, path: &str) -> Option<FileFault> {
+        self.files.lock(self.rt).fault_at(&self.reach, path)
+    }
+
+    /// The result of the definition at `place` of the file at `path`, if an import's string is there.
+    fn import_text(&self, path: &Text, place: Place) -> Result<Option<String>, Memory> {
+        self.definition_of_import(path.as_str(), place.line, place.character)
+    }
+
+    /// The path of the file at the path `/` and `file`.
+    fn path_below_all(&self, file: &str) -> Result<Text, Memory> {
         let face = joined(self.alloc, "/", file)?;
-        let path = self.path_of(face.as_str())?;
-        self.files.lock(self.rt).view.name_of(path.as_str())
+        self.path_of(face.as_str())
+    }
+
+    /// Replies `text` to the request of `label`.
+    pub(super) fn reply(&mut self, label: Label, text: String) -> Result<Step, ScriptFault> {
+        let text = Text::from_string(self.alloc, text)?;
+        self.hand_in(Post::Ask(Request {
+            label,
+            want: Want::Fixed(text),
+        }))
     }
 
     /// Hands in `post`. The receipt of a request goes to the writer.

@@ -7,9 +7,12 @@ use crate::editor::line::Handed;
 use crate::library::{Failure, joined};
 use crate::serving::floor::Floor;
 use pq_core::{Body, Change};
-use pq_inputs::{Durability, MAX_FILES, MAX_TEXT};
+use pq_editor::{FileFault, imported_names};
+use pq_inputs::{Durability, MAX_TEXT};
 use pq_mail::Post;
-use pq_session::{CutFault, Event, Memory, ScriptFault, change_to, text_after_cuts};
+use pq_session::{
+    CutFault, Event, Memory, ScriptFault, change_to, plain_uri, scheme_of, text_after_cuts,
+};
 use pq_view::{Edit, Text};
 use std::alloc::Global;
 use std::io::Write;
@@ -34,7 +37,8 @@ where
         Ok(step_of(goes_on))
     }
 
-    /// Opens the document that is written as `face`. Returns whether the session goes on.
+    /// Opens the document that is written as `face`. Its folder is a root if the document lies below none.
+    /// Returns whether the session goes on.
     fn open(
         &mut self,
         face: String,
@@ -46,7 +50,10 @@ where
             return Ok(true);
         };
         let path = self.path_of(face.as_str())?;
-        self.call_looker();
+        if self.roots.add_own(path.as_str(), face.as_str())? && !self.take_roots()? {
+            return Ok(false);
+        }
+        self.want_path(&path)?;
         let (before, number) = {
             let mut files = self.files.lock(self.rt);
             let before = files.documents.take(face.as_str());
@@ -98,7 +105,7 @@ where
             }
             Err(CutFault::TooMany) => {
                 self.lines.say_failure(self.rt, face, &Failure::BadRanges);
-                self.end_document(document)
+                self.leave(document)
             }
             Err(CutFault::Memory) => Err(ScriptFault::Memory),
         }
@@ -110,6 +117,7 @@ where
         if had_room && !document.has_room() {
             self.lines
                 .say_failure(self.rt, document.face.as_str(), &Failure::TextTooLong);
+            self.tell_of(document.face.as_str(), FileFault::TooLong)?;
         }
         self.has_moved = true;
         let edits = {
@@ -147,14 +155,29 @@ where
             Some(document) => self.end_document(document)?,
             None => true,
         };
-        Ok(goes_on && self.set_on_disk(Fetched { path, text: None })?)
+        let gone = Fetched {
+            stamp: self.rt.file_at(path.as_str()),
+            now: self.rt.seconds(),
+            path,
+            text: None,
+            fault: None,
+        };
+        Ok(goes_on && self.set_on_disk(gone)?)
     }
 
     /// Does what a notification asks for that makes no edit of its own.
     pub(super) fn notice(&mut self, event: Event) -> Result<Step, ScriptFault> {
         match event {
             Event::Ready => {
-                self.is_ready = true;
+                self.be_ready();
+                Ok(Step::GoesOn)
+            }
+            Event::Answers => {
+                self.unanswered = self.unanswered.saturating_sub(1);
+                Ok(Step::GoesOn)
+            }
+            Event::Opens { uri, .. } => {
+                self.say_scheme(uri.as_str());
                 Ok(Step::GoesOn)
             }
             Event::Closes { uri } => {
@@ -162,18 +185,62 @@ where
                 Ok(step_of(goes_on))
             }
             Event::Saves { uri } => {
-                let mut paths = Vec::new(self.alloc);
-                self.push_path(&mut paths, uri.as_str())?;
-                let goes_on = self.read_again(paths)?;
+                let goes_on = self.save(uri.as_str())?;
                 Ok(step_of(goes_on))
             }
             Event::Touches(uris) => {
-                let paths = self.paths_of(uris.as_slice())?;
-                let goes_on = self.read_again(paths)?;
+                let goes_on = self.touched(uris.as_slice())?;
+                Ok(step_of(goes_on))
+            }
+            Event::ChangesFolders { added, removed } => {
+                let goes_on = self.change_folders(added.as_slice(), removed.as_slice())?;
                 Ok(step_of(goes_on))
             }
             _ => Ok(Step::GoesOn),
         }
+    }
+
+    /// The client takes messages from now on.
+    fn be_ready(&mut self) {
+        self.takes.is_ready = true;
+        if let Some(ways) = &self.ways {
+            let _ = ways.log.try_send(self.rt, ());
+        }
+    }
+
+    /// Says once that documents of the scheme of `uri` are passed over.
+    fn say_scheme(&self, uri: &str) {
+        let scheme = scheme_of(uri);
+        if let Ok(line) = scheme_line(self.alloc, scheme) {
+            self.lines.say_once(self.rt, scheme, line.as_str());
+        }
+    }
+
+    /// The document `uri` was written to the disk. Returns whether the session goes on.
+    fn save(&mut self, uri: &str) -> Result<bool, ScriptFault> {
+        let Some(face) = self.face_of(uri)? else {
+            return Ok(true);
+        };
+        let path = self.path_of(face.as_str())?;
+        let paths = one(self.alloc, &path)?;
+        self.call_looker();
+        self.read(paths)
+    }
+
+    /// The files of `uris` were made, changed or deleted. Those that were looked for are read again. If
+    /// there are others while imports are missing, a walk is to be made soon. Returns whether the session
+    /// goes on.
+    fn touched(&mut self, uris: &[String]) -> Result<bool, ScriptFault> {
+        let mut paths = Vec::new(self.alloc);
+        for path in self.paths_of(uris)? {
+            if self.reach.was_looked_at(path.as_str()) {
+                paths.push(path)?;
+            } else {
+                self.search.lack();
+            }
+        }
+        self.call_looker();
+        self.read(each_once(paths)?)
     }
 
     /// The paths of `uris` that can be those of files below a root.
@@ -194,17 +261,23 @@ where
         let Some(document) = self.files.lock(self.rt).documents.take(face.as_str()) else {
             return Ok(true);
         };
+        self.leave(document)
+    }
+
+    /// `document` is open no longer: its file is read. Returns whether the session goes on.
+    fn leave(&mut self, document: Document) -> Result<bool, ScriptFault> {
         let paths = one(self.alloc, &document.path)?;
-        let goes_on = self.read_again(paths)?;
+        let goes_on = self.read(paths)?;
         Ok(goes_on && self.end_document(document)?)
     }
 
     /// The path of `uri`, as the editor writes it, if it names one.
-    fn face_of(&self, uri: &str) -> Result<Option<String>, Memory> {
+    pub(super) fn face_of(&self, uri: &str) -> Result<Option<String>, Memory> {
         let Some(root) = self.session.root() else {
             return Ok(None);
         };
-        match root.file_of(self.alloc, uri)? {
+        let uri = plain_uri(self.alloc, uri)?;
+        match root.file_of(self.alloc, uri.as_str())? {
             Some(file) => Ok(Some(joined(self.alloc, "/", file.as_str())?)),
             None => Ok(None),
         }
@@ -230,33 +303,30 @@ where
         Text::from_string(self.alloc, path)
     }
 
-    /// Reads the files at `paths` again, and has the looker look. Returns whether the session goes on.
-    fn read_again(&mut self, paths: Vec<Text>) -> Result<bool, ScriptFault> {
-        let paths = each_once(paths)?;
-        if paths.is_empty() {
-            self.call_looker();
-            return Ok(true);
-        }
-        // A file that is gone before the next look is not known to it.
-        self.files.lock(self.rt).touch(&paths)?;
-        let fetched = self.fetcher.fetch(self.rt, paths)?;
-        self.call_looker();
-        for it in fetched {
-            if !self.set_on_disk(it)? {
-                return Ok(false);
-            }
-        }
-        Ok(true)
-    }
-
-    /// The disk has the text of `fetched` at its path. Returns whether the session goes on.
+    /// The disk has what `fetched` says at its path, which is watched from now on. Returns whether the
+    /// session goes on.
     pub(crate) fn set_on_disk(&mut self, fetched: Fetched) -> Result<bool, ScriptFault> {
-        let Fetched { path, text } = fetched;
+        let Fetched {
+            path,
+            stamp,
+            now,
+            text,
+            fault,
+        } = fetched;
+        if let Some(fault) = fault {
+            self.tell_of(path.as_str(), fault)?;
+        }
+        self.reach.look_at(path.as_str())?;
         let text = match text {
             Some(text) => Some(Text::from_string(self.alloc, text)?),
             None => None,
         };
-        let edits = self.files.lock(self.rt).view.set_file(path, text)?;
+        let edits = {
+            let mut files = self.files.lock(self.rt);
+            files.set_fault(path.as_str(), fault)?;
+            files.watch(path.copy()?, stamp, now)?;
+            files.view.set_file(path, text)?
+        };
         self.post_disk(edits)
     }
 
@@ -278,43 +348,55 @@ where
         Ok(true)
     }
 
-    /// Makes `edit`. A text that is too long, and a file too many, is absent. Returns whether the session
-    /// goes on.
+    /// Makes `edit`, if its name is reached. A name that has no text and was never set stays as it is.
+    /// Returns whether the session goes on.
     fn post_edit(&mut self, edit: Edit, durability: Durability) -> Result<bool, ScriptFault> {
         let Edit { name, text } = edit;
-        let text = kept(self.alloc, text)?;
-        if !self.known.contains(name.as_str()) {
-            if text.is_none() || !self.learn(name.as_str())? {
-                return Ok(true);
-            }
+        if !self.reach.has(name.as_str()) {
+            return Ok(true);
         }
-        let change = change_to(self.alloc, name.as_str(), text, durability)?;
-        match self.line.hand_in(Post::Edit(change))? {
-            Handed::Edited(revision) => {
-                self.revision = revision;
-                self.has_moved = true;
-                Ok(true)
-            }
-            _ => Ok(false),
+        if text.is_none() && !self.reach.was_set(name.as_str()) {
+            return Ok(true);
         }
+        self.post_text(name, text, durability)
     }
 
-    /// Adds `name` to the names that are known. Returns whether there is room for it. The first name
-    /// without room leaves a line.
-    fn learn(&mut self, name: &str) -> Result<bool, Memory> {
-        if self.known.len() < MAX_FILES {
-            let name = String::from_str(self.alloc, name)?;
-            return match self.known.insert(name) {
-                Ok(_) => Ok(true),
-                Err(_) => Err(Memory),
-            };
+    /// Sets the file `name` to `text`. A text that is too long is absent. Returns whether the session goes
+    /// on.
+    pub(super) fn post_text(
+        &mut self,
+        name: Text,
+        text: Option<Text>,
+        durability: Durability,
+    ) -> Result<bool, ScriptFault> {
+        let kept = kept(self.alloc, &text)?;
+        let is_there = kept.is_some();
+        let change = change_to(self.alloc, name.as_str(), kept, durability)?;
+        match self.line.hand_in(Post::Edit(change))? {
+            Handed::Edited(revision) => self.revision = revision,
+            _ => return Ok(false),
         }
-        if !self.has_said_too_many {
-            self.has_said_too_many = true;
-            self.lines
-                .say_failure(self.rt, name, &Failure::TooManyFiles);
+        self.has_moved = true;
+        if self.reach.is_shared(name.as_str()) {
+            self.is_refresh_due = true;
         }
-        Ok(false)
+        self.reach.set(name.as_str(), is_there)?;
+        if let Some(text) = text {
+            self.want_imports(name.as_str(), &text)?;
+        }
+        Ok(true)
+    }
+
+    /// Reaches the names that the text `text` of the file `name` imports.
+    fn want_imports(&mut self, name: &str, text: &Text) -> Result<(), Memory> {
+        if !text.as_str().contains("import") || text.as_str().len() > MAX_TEXT {
+            return Ok(());
+        }
+        let path = self.files.lock(self.rt).view.path_of(name)?;
+        for imported in imported_names(self.alloc, text.as_str())? {
+            self.want(imported.as_str(), &path, true)?;
+        }
+        Ok(())
     }
 }
 
@@ -325,8 +407,13 @@ fn one(alloc: Global, path: &Text) -> Result<Vec<Text>, Memory> {
     Ok(paths)
 }
 
-/// `text`, if it is short enough for a file.
-fn kept(alloc: Global, text: Option<Text>) -> Result<Option<String>, Memory> {
+/// The line that says that documents of `scheme` are passed over.
+fn scheme_line(alloc: Global, scheme: &str) -> Result<String, Memory> {
+    format!(in alloc; "pq_server: documents of the scheme `{scheme}:` are passed over")
+}
+
+/// A copy of `text`, if it is short enough for a file.
+fn kept(alloc: Global, text: &Option<Text>) -> Result<Option<String>, Memory> {
     match text {
         Some(text) if text.as_str().len() <= MAX_TEXT => {
             Ok(Some(String::from_str(alloc, text.as_str())?))
