@@ -2,7 +2,7 @@
 //!
 //! A thread of its own writes them, so that no other thread waits where nobody reads. A line for which
 //! there is no room is dropped. Why a file on the disk was passed over is said again only where the reason
-//! is another one.
+//! is another one. Each line that is written goes to the log of the editor, too, by the `logger`.
 use crate::library::Failure;
 use crossbeam_channel::{Receiver, Sender};
 use pq_session::Memory;
@@ -13,8 +13,11 @@ use std::thread;
 use std::thread::Threads;
 use std::time::{Clock, Duration};
 
-/// The lines that may wait to be written.
+/// The lines that may wait to be written, and those that may wait for the log.
 const ROOM: usize = 256;
+
+/// What is in front of each line, and not in the log.
+const PROGRAM: &str = "pq_server: ";
 
 /// The most bytes of a line, without its end.
 const LONGEST: usize = 1000;
@@ -27,8 +30,10 @@ const PATIENCE: u64 = 50;
 enum Said {
     /// A line, with its end.
     Line(String),
-    /// The line of a file or folder on the disk that was passed over, with its path.
-    PassedOver { path: String, line: String },
+    /// A line, with its end, that is not said where it is the last that was said under its key.
+    News { key: String, line: String },
+    /// No line goes to the log any more.
+    EndLog,
     /// Something waits for all lines before this.
     Flush(Sender<()>),
 }
@@ -40,17 +45,49 @@ pub(crate) struct Lines {
     sender: Sender<Said>,
 }
 
+/// The way to the log of the editor.
+#[derive(Drop)]
+struct Log {
+    alloc: Global,
+    /// It is there until the end of the log.
+    sender: Option<Sender<String>>,
+}
+
+impl Log {
+    /// Puts the text of `line` into the log. Without room or memory for it, it is dropped.
+    fn put<R: Wait>(&self, rt: &R, line: &str) {
+        let Some(sender) = &self.sender else {
+            return;
+        };
+        if let Ok(text) = String::from_str(self.alloc, text_of(line)) {
+            let _ = sender.try_send(rt, text);
+        }
+    }
+
+    /// Ends the log: its reader takes what was put into it, and then finds the end.
+    fn end(&mut self) {
+        self.sender = None;
+    }
+}
+
 impl Lines {
-    /// Starts the thread that writes lines. `Memory` also says that it could not be started.
-    pub(crate) fn start<R>(rt: &R) -> Result<Lines, Memory>
+    /// Starts the thread that writes lines. Returns the way to it, and what goes to the log of the editor:
+    /// the text of each line that is written, without its end and without the name of the program in
+    /// front. `Memory` also says that the thread could not be started.
+    pub(crate) fn start<R>(rt: &R) -> Result<(Lines, Receiver<String>), Memory>
     where
         R: Threads + Wait + Eprint + AllocGlobal + Copy + Drop + Send + Sync + 'static,
     {
         let alloc = rt.alloc();
         let (sender, receiver) = crossbeam_channel::bounded(alloc, ROOM)?;
+        let (log, heard) = crossbeam_channel::bounded(alloc, ROOM)?;
+        let log = Log {
+            alloc,
+            sender: Some(log),
+        };
         let host = *rt;
-        match thread::spawn(rt, move || write_lines(&host, receiver)) {
-            Ok(_) => Ok(Lines { alloc, sender }),
+        match thread::spawn(rt, move || write_lines(&host, receiver, log)) {
+            Ok(_) => Ok((Lines { alloc, sender }, heard)),
             Err(_) => Err(Memory),
         }
     }
@@ -79,7 +116,15 @@ impl Lines {
         if failure.is_memory() {
             return;
         }
-        if let Ok(said) = passed_over(self.alloc, path, failure) {
+        if let Ok(line) = line_of(self.alloc, path, failure) {
+            self.say_once(rt, path, line.as_str());
+        }
+    }
+
+    /// Says `line`, cleaned, unless it was said under `key` last. A line for which there is no room or no
+    /// memory is dropped.
+    pub(crate) fn say_once<H: Wait>(&self, rt: &H, key: &str, line: &str) {
+        if let Ok(said) = news_of(self.alloc, key, line) {
             let _ = self.sender.try_send(rt, said);
         }
     }
@@ -89,6 +134,11 @@ impl Lines {
         if let Ok(line) = cleaned(self.alloc, line) {
             let _ = self.sender.try_send(rt, Said::Line(line));
         }
+    }
+
+    /// Ends the log of the editor. The lines before this go to it.
+    pub(crate) fn end_log<H: Wait>(&self, rt: &H) {
+        let _ = self.sender.try_send(rt, Said::EndLog);
     }
 
     /// Waits until the lines are written, and not for long.
@@ -107,12 +157,11 @@ fn line_of(alloc: Global, path: &str, failure: &Failure) -> Result<String, Memor
     format!(in alloc; "pq_server: {path}: {failure}")
 }
 
-/// What is said of the file or folder at `path` that was passed over.
-fn passed_over(alloc: Global, path: &str, failure: &Failure) -> Result<Said, Memory> {
-    let line = line_of(alloc, path, failure)?;
-    Ok(Said::PassedOver {
-        path: String::from_str(alloc, path)?,
-        line: cleaned(alloc, line.as_str())?,
+/// `line`, cleaned, under `key`.
+fn news_of(alloc: Global, key: &str, line: &str) -> Result<Said, Memory> {
+    Ok(Said::News {
+        key: String::from_str(alloc, key)?,
+        line: cleaned(alloc, line)?,
     })
 }
 
@@ -130,15 +179,24 @@ fn cleaned(alloc: Global, line: &str) -> Result<String, Memory> {
     Ok(text)
 }
 
-/// Writes the lines that come, until nobody can say one any more.
-fn write_lines<R: Wait + Eprint + AllocGlobal>(rt: &R, receiver: Receiver<Said>) {
+/// The text of `line`, without its end and without the name of the program in front.
+fn text_of(line: &str) -> &str {
+    let line = line.trim_end_matches('\n');
+    match line.strip_prefix(PROGRAM) {
+        Some(text) => text,
+        None => line,
+    }
+}
+
+/// Writes the lines that come, and puts them into `log`, until nobody can say one any more.
+fn write_lines<R: Wait + Eprint + AllocGlobal>(rt: &R, receiver: Receiver<Said>, log: Log) {
+    let mut log = log;
     let mut last = BTreeMap::new(rt.alloc());
     for _ in rt.forever() {
         match receiver.recv(rt) {
-            Ok(Said::Line(line)) => {
-                let _ = eprint!(rt; "{line}");
-            }
-            Ok(Said::PassedOver { path, line }) => write_news(rt, &mut last, path, line),
+            Ok(Said::Line(line)) => write_line(rt, &log, line.as_str()),
+            Ok(Said::News { key, line }) => write_news(rt, &log, &mut last, key, line),
+            Ok(Said::EndLog) => log.end(),
             Ok(Said::Flush(done)) => {
                 let _ = done.try_send(rt, ());
             }
@@ -147,13 +205,25 @@ fn write_lines<R: Wait + Eprint + AllocGlobal>(rt: &R, receiver: Receiver<Said>)
     }
 }
 
-/// Writes `line` of the file or folder at `path`, unless it is the last of it.
-fn write_news<R: Eprint>(rt: &R, last: &mut BTreeMap<String, String>, path: String, line: String) {
-    if let Some(before) = last.get(path.as_str()) {
+/// Puts `line` into `log`, and writes it. The write comes last: it waits where nobody reads.
+fn write_line<R: Wait + Eprint>(rt: &R, log: &Log, line: &str) {
+    log.put(rt, line);
+    let _ = eprint!(rt; "{line}");
+}
+
+/// Writes `line`, unless `last` has it under `key`, and puts it there.
+fn write_news<R: Wait + Eprint>(
+    rt: &R,
+    log: &Log,
+    last: &mut BTreeMap<String, String>,
+    key: String,
+    line: String,
+) {
+    if let Some(before) = last.get(key.as_str()) {
         if *before == line {
             return;
         }
     }
-    let _ = eprint!(rt; "{line}");
-    let _ = last.insert(path, line);
+    write_line(rt, log, line.as_str());
+    let _ = last.insert(key, line);
 }

@@ -9,8 +9,8 @@ use std::sync::{Mutex, Wait};
 pub(crate) struct Output<W> {
     alloc: Global,
     stream: Mutex<W>,
-    /// Whether the client has asked for the end, so that no list is sent any more. It has a lock of its
-    /// own, so that nobody waits for a write to set it.
+    /// Whether the client has asked for the end, so that no list and no line of the log is sent any more.
+    /// It has a lock of its own, so that nobody waits for a write to set it.
     is_ending: Mutex<bool>,
 }
 
@@ -38,10 +38,11 @@ impl<W: Write + Copy> Output<W> {
         write_frame(self.alloc, &mut counted, body.as_bytes())
     }
 
-    /// Writes the frame of `body`, a list of diagnostics, unless the client has asked for the end.
+    /// Writes the frame of `body`, a list of diagnostics or a line of the log, unless the client has asked
+    /// for the end.
     pub(crate) fn send_list<H: Wait>(&self, rt: &H, body: &str) -> Result<(), ScriptFault> {
         let stream = self.stream.lock(rt);
-        // Asked under the lock of the stream: what is written after it was set is no list.
+        // Asked under the lock of the stream: what is written after it was set is neither.
         if *self.is_ending.lock(rt) {
             return Ok(());
         }
@@ -49,7 +50,7 @@ impl<W: Write + Copy> Output<W> {
         write_frame(self.alloc, &mut counted, body.as_bytes())
     }
 
-    /// Writes no list from now on, but for one that is being written.
+    /// Writes no list and no line of the log from now on, but for one that is being written.
     pub(crate) fn end_lists<H: Wait>(&self, rt: &H) {
         *self.is_ending.lock(rt) = true;
     }

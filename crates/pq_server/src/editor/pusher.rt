@@ -3,12 +3,15 @@
 //!
 //! It is a client of the hall of its own, so that its requests take no place of the editor's. It asks
 //! for several lists at a time, so that all workers have something to do. An edit that comes while it
-//! asks overtakes its requests, and the round of that edit comes next.
+//! asks overtakes its requests, and the round of that edit comes next. A document that is not read has a
+//! list that says so, and is not asked for.
+use crate::editor::files::{Files, Shown};
 use crate::editor::line::{Handed, Line};
 use crate::editor::output::Output;
 use crate::editor::rounds::{Asked, Round, Rounds};
 use crate::serving::floor::{Floor, NoText};
 use crossbeam_channel::Receiver;
+use pq_editor::{FileFault, fault_list};
 use pq_hall::Client;
 use pq_mail::Post;
 use pq_session::{
@@ -17,10 +20,18 @@ use pq_session::{
 use std::alloc::Global;
 use std::collections::VecDeque;
 use std::io::Write;
-use std::sync::Wait;
+use std::sync::{Mutex, Wait};
 
 /// How many lists are asked for at a time.
 const AT_ONCE: usize = 16;
+
+/// A list that says why a document is not read.
+#[derive(Clone, Copy, Debug, PartialEq, Eq)]
+struct Refusal {
+    fault: FileFault,
+    /// The version of the document.
+    version: Option<i64>,
+}
 
 /// What was sent last for a document.
 #[derive(Drop)]
@@ -29,7 +40,39 @@ struct Sent {
     number: u64,
     /// Its URI, as the editor writes it.
     uri: String,
+    /// The last list of its diagnostics. Nothing, if a refusal was sent after it.
     last: LastSent,
+    /// The refusal, if it was sent last.
+    refusal: Option<Refusal>,
+}
+
+impl Sent {
+    /// Nothing was sent for the document with this number and this URI.
+    fn new(number: u64, uri: String) -> Sent {
+        Sent {
+            number,
+            uri,
+            last: LastSent::new(),
+            refusal: None,
+        }
+    }
+
+    /// Takes `list`, for the document at `version`. Returns whether it is to be sent, as
+    /// `LastSent::replace` says. After a refusal each list is.
+    fn replace(&mut self, list: DiagnosticList, version: Option<i64>) -> bool {
+        self.refusal = None;
+        self.last.replace(list, version)
+    }
+
+    /// Takes `refusal`. Returns whether it is to be sent: it was not sent last.
+    fn refuse(&mut self, refusal: Refusal) -> bool {
+        if self.refusal == Some(refusal) {
+            return false;
+        }
+        self.refusal = Some(refusal);
+        self.last = LastSent::new();
+        true
+    }
 }
 
 /// A list that was asked for.
@@ -50,6 +93,7 @@ struct Pusher<'a, F: Floor<H>, H, W> {
     take: F::Take,
     rounds: &'a Rounds,
     output: &'a Output<W>,
+    places: Shown<'a, H>,
     /// What was sent, in order of the documents' numbers.
     sent: Vec<Sent>,
 }
@@ -64,6 +108,7 @@ impl<'a, F: Floor<H>, H: Wait, W: Write + Copy> Pusher<'a, F, H, W> {
         take: F::Take,
         rounds: &'a Rounds,
         output: &'a Output<W>,
+        files: &'a Mutex<Files>,
     ) -> Pusher<'a, F, H, W> {
         Pusher {
             rt,
@@ -73,6 +118,7 @@ impl<'a, F: Floor<H>, H: Wait, W: Write + Copy> Pusher<'a, F, H, W> {
             take,
             rounds,
             output,
+            places: Shown { rt, files },
             sent: Vec::new(alloc),
         }
     }
@@ -136,7 +182,8 @@ impl<'a, F: Floor<H>, H: Wait, W: Write + Copy> Pusher<'a, F, H, W> {
         self.output.send_list(self.rt, text.as_str())
     }
 
-    /// Asks for the diagnostics of the document at `place` of `round`. Returns whether the pusher goes on.
+    /// Asks for the diagnostics of the document at `place` of `round`, or refuses it. Returns whether the
+    /// pusher goes on.
     ///
     /// An allocation failure of its own asks for nothing: the document is asked for again at the next
     /// edit.
@@ -149,6 +196,10 @@ impl<'a, F: Floor<H>, H: Wait, W: Write + Copy> Pusher<'a, F, H, W> {
         let Some(asked) = round.asked.get(place) else {
             return Ok(true);
         };
+        if let Some(fault) = asked.fault {
+            self.refuse(asked, fault)?;
+            return Ok(true);
+        }
         let Ok(request) = diagnostics_of(self.alloc, asked.name.as_str()) else {
             return Ok(true);
         };
@@ -175,10 +226,14 @@ impl<'a, F: Floor<H>, H: Wait, W: Write + Copy> Pusher<'a, F, H, W> {
             return Ok(true);
         };
         let client = self.line.client();
-        match self
-            .floor
-            .list(self.rt, self.alloc, client, &mut self.take, &receipt)
-        {
+        match self.floor.list(
+            self.rt,
+            self.alloc,
+            client,
+            &mut self.take,
+            &receipt,
+            &self.places,
+        ) {
             Ok(Some(list)) if list.revision() == round.revision => self.send_list(asked, list)?,
             Err(NoText::Closed) => return Ok(false),
             _ => {}
@@ -190,18 +245,44 @@ impl<'a, F: Floor<H>, H: Wait, W: Write + Copy> Pusher<'a, F, H, W> {
     /// whatever it is.
     fn send_list(&mut self, asked: &Asked, list: DiagnosticList) -> Result<(), ScriptFault> {
         let (rt, output) = (self.rt, self.output);
-        let Ok(last) = self.last_of(asked) else {
+        let Ok(sent) = self.sent_for(asked) else {
             return Ok(());
         };
-        if !last.replace(list, asked.version) {
+        if !sent.replace(list, asked.version) {
             return Ok(());
         }
-        match publish(rt, output, asked, last.text()) {
+        let published = publish(rt, output, asked, sent.last.text());
+        self.kept(asked, published)
+    }
+
+    /// Sends the list that says why a document is not read, if it is news. After an allocation failure it
+    /// is news again.
+    fn refuse(&mut self, asked: &Asked, fault: FileFault) -> Result<(), ScriptFault> {
+        let (rt, output) = (self.rt, self.output);
+        let version = asked.version;
+        let Ok(sent) = self.sent_for(asked) else {
+            return Ok(());
+        };
+        if !sent.refuse(Refusal { fault, version }) {
+            return Ok(());
+        }
+        let published = publish_refusal(rt, output, asked, fault);
+        self.kept(asked, published)
+    }
+
+    /// What the send of a list for a document came to. After an allocation failure what was sent for it is
+    /// forgotten, and the pusher goes on.
+    fn kept(
+        &mut self,
+        asked: &Asked,
+        published: Result<(), ScriptFault>,
+    ) -> Result<(), ScriptFault> {
+        match published {
             Err(ScriptFault::Memory) => {
                 self.forget(asked.number);
                 Ok(())
             }
-            sent => sent,
+            published => published,
         }
     }
 
@@ -212,10 +293,10 @@ impl<'a, F: Floor<H>, H: Wait, W: Write + Copy> Pusher<'a, F, H, W> {
     }
 
     /// What was sent last for a document.
-    fn last_of(&mut self, asked: &Asked) -> Result<&mut LastSent, Memory> {
+    fn sent_for(&mut self, asked: &Asked) -> Result<&mut Sent, Memory> {
         let place = self.place_of(asked)?;
         match self.sent.get_mut(place) {
-            Some(sent) => Ok(&mut sent.last),
+            Some(sent) => Ok(sent),
             None => Err(Memory),
         }
     }
@@ -227,8 +308,7 @@ impl<'a, F: Floor<H>, H: Wait, W: Write + Copy> Pusher<'a, F, H, W> {
             Ok(place) => Ok(place),
             Err(place) => {
                 let uri = String::from_str(self.alloc, asked.uri.as_str())?;
-                let last = LastSent::new();
-                self.sent.insert(place, Sent { number, uri, last })?;
+                self.sent.insert(place, Sent::new(number, uri))?;
                 Ok(place)
             }
         }
@@ -256,6 +336,17 @@ fn publish<H: Wait, W: Write + Copy>(
     output.send_list(rt, body.as_str())
 }
 
+/// Sends the list that says why a document is not read.
+fn publish_refusal<H: Wait, W: Write + Copy>(
+    rt: &H,
+    output: &Output<W>,
+    asked: &Asked,
+    fault: FileFault,
+) -> Result<(), ScriptFault> {
+    let list = fault_list(output.alloc(), fault)?;
+    publish(rt, output, asked, list.as_str())
+}
+
 /// Pushes the rounds of `rounds` by the client of `line`, one for each bell, until the bell is gone or
 /// that client is closed.
 ///
@@ -270,6 +361,7 @@ pub(crate) fn push_all<'a, F, H, W>(
     take: F::Take,
     rounds: &'a Rounds,
     output: &'a Output<W>,
+    files: &'a Mutex<Files>,
     bell: Receiver<()>,
 ) -> Result<(), ScriptFault>
 where
@@ -277,7 +369,7 @@ where
     H: Wait,
     W: Write + Copy,
 {
-    let mut pusher = Pusher::new(rt, alloc, floor, line, take, rounds, output);
+    let mut pusher = Pusher::new(rt, alloc, floor, line, take, rounds, output, files);
     for _ in rt.forever() {
         if bell.recv(rt).is_err() {
             return Ok(());

@@ -1,4 +1,5 @@
-//! The rounds of pushes: what the reader hands to the pusher after edits.
+//! The rounds of pushes: what the desk hands to the pusher after edits.
+use pq_editor::FileFault;
 use pq_view::Text;
 use std::sync::{Mutex, Wait};
 
@@ -13,6 +14,8 @@ pub(crate) struct Asked {
     pub(crate) name: Text,
     /// Its version at the revision of the round, if the editor gave one.
     pub(crate) version: Option<i64>,
+    /// Why its text is not read, if it is not: then its diagnostics are this alone.
+    pub(crate) fault: Option<FileFault>,
 }
 
 /// What is to be pushed after an edit. A document that is not asked for shows no diagnostics.

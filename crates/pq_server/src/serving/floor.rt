@@ -79,6 +79,10 @@ impl From<AllocError> for NoText {
 pub(crate) trait Places {
     /// The URI of the file `name`.
     fn uri_of(&self, name: &str) -> Result<String, Memory>;
+
+    /// What is said behind the message that an imported file is absent: the folders in which it was
+    /// looked for.
+    fn looked(&self) -> Result<String, Memory>;
 }
 
 /// A rule set whose requests are those of sessions, and whose replies have texts.
@@ -97,16 +101,19 @@ pub(crate) trait Texts: Rules {
     fn file_of<M: Stamp>(reply: &Reply<Self::Key, Self::Value, M>) -> Option<&str>;
 
     /// The text of `reply` for an editor. `uri` is the URI of the file of its definition, if it answers
-    /// one.
+    /// one. `looked` is what is said behind the message that an imported file is absent.
     fn editor_text_of<M: Stamp>(
         alloc: Global,
         uri: &str,
+        looked: &str,
         reply: &Reply<Self::Key, Self::Value, M>,
     ) -> Result<String, AllocError>;
 
-    /// The diagnostics that `reply` answers, if it answers some.
+    /// The diagnostics that `reply` answers, if it answers some. `looked` is what is said behind the
+    /// message that an imported file is absent.
     fn list_of<M: Stamp>(
         alloc: Global,
+        looked: &str,
         reply: &Reply<Self::Key, Self::Value, M>,
     ) -> Result<Option<DiagnosticList>, AllocError>;
 }
@@ -131,16 +138,18 @@ impl<B: Braces> Texts for HallRules<B> {
     fn editor_text_of<M: Stamp>(
         alloc: Global,
         uri: &str,
+        looked: &str,
         reply: &Reply<ProtoKey, ProtoValue, M>,
     ) -> Result<String, AllocError> {
-        editor_text(alloc, uri, reply)
+        editor_text(alloc, uri, looked, reply)
     }
 
     fn list_of<M: Stamp>(
         alloc: Global,
+        looked: &str,
         reply: &Reply<ProtoKey, ProtoValue, M>,
     ) -> Result<Option<DiagnosticList>, AllocError> {
-        diagnostic_list(alloc, reply)
+        diagnostic_list(alloc, looked, reply)
     }
 }
 
@@ -249,7 +258,8 @@ pub(crate) trait Floor<H>: Posting<H, Post: Send, Receipt: Send> + Sync {
     fn refill(&self, rt: &H, client: Client);
 
     /// The text of the reply of `receipt` for an editor. The URI of a definition is that of `places` for
-    /// its file. If an allocation fails for the text, it is the text that says so.
+    /// its file, and `places` has the folders in which an absent file was looked for. If an allocation
+    /// fails for the text, it is the text that says so.
     fn editor_text<P: Places>(
         &self,
         rt: &H,
@@ -260,14 +270,16 @@ pub(crate) trait Floor<H>: Posting<H, Post: Send, Receipt: Send> + Sync {
         places: &P,
     ) -> Result<String, NoText>;
 
-    /// The diagnostics that the reply of `receipt` answers, if it answers some.
-    fn list(
+    /// The diagnostics that the reply of `receipt` answers, if it answers some. `places` has the folders
+    /// in which an absent file was looked for.
+    fn list<P: Places>(
         &self,
         rt: &H,
         alloc: Global,
         client: Client,
         take: &mut Self::Take,
         receipt: &Self::Receipt,
+        places: &P,
     ) -> Result<Option<DiagnosticList>, NoText>;
 
     /// Closes `client`, if it is open.
@@ -431,20 +443,23 @@ where
             Some(file) => places.uri_of(file)?,
             None => String::new(alloc),
         };
-        let text = S::editor_text_of(alloc, uri.as_str(), reply);
+        let looked = places.looked()?;
+        let text = S::editor_text_of(alloc, uri.as_str(), looked.as_str(), reply);
         Ok(text_or_refusal(alloc, text, &reply.request().label)?)
     }
 
-    fn list(
+    fn list<P: Places>(
         &self,
         rt: &H,
         alloc: Global,
         client: Client,
         take: &mut TakeEnd<S, Mark<J>>,
         receipt: &Receipt<S::Key>,
+        places: &P,
     ) -> Result<Option<DiagnosticList>, NoText> {
         let taken = self.take_one(rt, client, take, receipt)?;
-        Ok(S::list_of(alloc, taken.reply())?)
+        let looked = places.looked()?;
+        Ok(S::list_of(alloc, looked.as_str(), taken.reply())?)
     }
 
     fn close(&self, rt: &H, client: Client) {
