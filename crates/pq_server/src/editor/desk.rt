@@ -180,6 +180,7 @@ where
     /// Ends the threads to which the desk has ways.
     pub(crate) fn end(&mut self) {
         self.ways = None;
+        self.lines.end_log(self.rt);
     }
 
     /// Hands on what was left to do: a round of pushes, and requests to the client. While lists are held

@@ -462,6 +462,7 @@ where
                 pushing_take,
                 rounds,
                 output,
+                files,
                 bell,
             );
             warned(rt, ends, pushed)
@@ -486,6 +487,7 @@ where
                 alloc,
                 floor,
                 desk,
+                files,
                 surveying_line,
                 surveying_take,
                 surveys,
