@@ -202,12 +202,18 @@ where
         Ok(())
     }
 
-    /// Begins a walk if imports are missing and it is time for one.
+    /// Begins a walk if imports are missing and it is time for one. If one is under way lists are held for
+    /// it.
     fn walk_for_missing(&mut self) -> Result<(), ScriptFault> {
-        if self.reach.has_missing() {
-            if self.search.may_walk(self.rt) {
-                return self.walk(true);
-            }
+        if !self.reach.has_missing() {
+            return Ok(());
+        }
+        if self.search.is_walking() {
+            self.search.hold(self.rt);
+            return Ok(());
+        }
+        if self.search.may_walk(self.rt) {
+            return self.walk(true);
         }
         Ok(())
     }

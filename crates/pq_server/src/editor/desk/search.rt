@@ -86,7 +86,14 @@ impl Search {
         self.is_walking = true;
         self.lacks = false;
         self.began = Instant::now(clock).ok();
-        if holds && !self.is_over && self.held.is_none() {
+        if holds {
+            self.hold(clock);
+        }
+    }
+
+    /// Lists are held from now on, if the first walk has not ended.
+    pub(crate) fn hold<C: Clock>(&mut self, clock: &C) {
+        if !self.is_over && self.held.is_none() {
             self.held = Instant::now(clock).ok();
         }
     }
