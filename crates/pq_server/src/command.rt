@@ -32,8 +32,12 @@ pub(crate) enum Task<'a> {
     Stdio {
         /// The number of workers, from 1 to 32.
         workers: u8,
-        /// The root folders. If there are none, the editor names them.
+        /// The root folders. They come before those that the editor names.
         roots: Vec<&'a str>,
+        /// Whether no other folder is searched, but for the one that comes with the program.
+        only_roots: bool,
+        /// Whether the folder that comes with the program is left out.
+        no_include: bool,
     },
 }
 
@@ -106,6 +110,16 @@ fn stdio<'a>(alloc: Global) -> Result<Command<'a>, Error> {
             "a folder from which imports are written, as -I of protoc; it may be given several times",
         )
         .action(ArgAction::Append);
+    let only_roots = Arg::new(alloc, "only-roots")
+        .long("only-roots")
+        .help(
+            "searches the folders of --root alone: none of the editor, none that imports show",
+        )
+        .action(ArgAction::SetTrue);
+    let no_include = Arg::new(alloc, "no-include")
+        .long("no-include")
+        .help("leaves out the folder with google/protobuf that comes with the program")
+        .action(ArgAction::SetTrue);
     let stdio = Arg::new(alloc, "stdio")
         .long("stdio")
         .help("changes nothing: some editors give it to each server")
@@ -114,6 +128,8 @@ fn stdio<'a>(alloc: Global) -> Result<Command<'a>, Error> {
         .about("serves one editor on the standard streams, and pushes diagnostics")
         .arg(workers)?
         .arg(root)?
+        .arg(only_roots)?
+        .arg(no_include)?
         .arg(stdio)?;
     Ok(command)
 }
@@ -150,6 +166,8 @@ fn stdio_task<'a>(alloc: Global, given: &ArgMatches<'a>) -> Result<Task<'a>, Err
     Ok(Task::Stdio {
         workers: given.get_one("workers").unwrap_or(STDIO_WORKERS),
         roots,
+        only_roots: given.get_flag("only-roots"),
+        no_include: given.get_flag("no-include"),
     })
 }
 

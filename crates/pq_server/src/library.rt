@@ -12,6 +12,7 @@ mod failure;
 mod fault;
 mod filling;
 mod folder;
+mod includes;
 mod names;
 mod paths;
 mod reading;
@@ -22,6 +23,7 @@ mod walk;
 pub(crate) use failure::{Failure, say};
 pub(crate) use fault::LibraryFault;
 pub(crate) use folder::{no_library, read_library};
+pub(crate) use includes::last_root;
 pub(crate) use paths::{absolute_of, joined};
 pub(crate) use serving::run_library_script;
 #[cfg(test)]

@@ -18,12 +18,12 @@ use clap::Error;
 use command::{Task, task_of};
 use editor::{Disk, Lines, Setup, serve_editor};
 use library::{
-    Failure, LibraryFault, absolute_of, no_library, read_library, run_library_script, say,
+    Failure, LibraryFault, absolute_of, last_root, no_library, read_library, run_library_script, say,
 };
 use log::Log;
 use pq_hall::{HallRules, Loose, Strict};
 use pq_proto::ProtoRules;
-use pq_session::{Counted, ScriptFault};
+use pq_session::Counted;
 use serving::{OpenGate, Size, serve};
 use status::{
     START_FAILED, line_of, not_started, refused, run_script, served, status_of, unannounced, unread,
@@ -148,8 +148,48 @@ fn roots_of<R: Env + Files + AllocGlobal + Eprint>(
     Ok(roots)
 }
 
-/// Serves one editor from `input` to `output`, with the root folders `folders`. Returns the exit status.
-fn run_for_editor<R, I, W>(rt: &R, input: I, output: W, workers: u8, folders: &[&str]) -> u8
+/// What the command line says of the session of an editor.
+#[derive(Clone, Copy)]
+struct Wanted<'a> {
+    workers: u8,
+    folders: &'a [&'a str],
+    only_roots: bool,
+    no_include: bool,
+}
+
+/// How the session is set up that the command line wants. If a folder is not known, a line says why.
+fn setup_of<R>(rt: &R, wanted: Wanted<'_>) -> Result<Setup, LibraryFault>
+where
+    R: Threads
+        + Wait
+        + Env
+        + Files
+        + Disk
+        + Eprint
+        + AllocGlobal
+        + Copy
+        + Drop
+        + Send
+        + Sync
+        + 'static,
+{
+    let roots = roots_of(rt, wanted.folders)?;
+    let include = if wanted.no_include {
+        None
+    } else {
+        last_root(rt)?
+    };
+    Ok(Setup {
+        workers: wanted.workers,
+        roots,
+        only_roots: wanted.only_roots,
+        include,
+        lines: Lines::start(rt)?,
+    })
+}
+
+/// Serves one editor from `input` to `output`. Returns the exit status.
+fn run_for_editor<R, I, W>(rt: &R, input: I, output: W, wanted: Wanted<'_>) -> u8
 where
     R: Threads
         + Wait
@@ -167,47 +207,33 @@ where
     I: Read + Drop + Send + 'static,
     W: Write + Copy + Drop + Send + Sync + 'static,
 {
-    let roots = match roots_of(rt, folders) {
-        Ok(roots) => roots,
+    let setup = match setup_of(rt, wanted) {
+        Ok(setup) => setup,
         Err(fault) => {
             let (status, line) = not_started(fault);
             let _ = eprint!(rt; "{line}");
             return status;
         }
     };
-    let Ok(lines) = Lines::start(rt) else {
-        let (status, line) = not_started(LibraryFault::Memory);
-        let _ = eprint!(rt; "{line}");
-        return status;
+    let lines = match setup.lines.copy() {
+        Ok(lines) => lines,
+        Err(_) => {
+            let (status, line) = not_started(LibraryFault::Memory);
+            let _ = eprint!(rt; "{line}");
+            return status;
+        }
     };
-    serve_with(rt, input, output, workers, roots, lines)
+    serve_with(rt, input, output, setup, lines)
 }
 
 /// Serves one editor, and says on `lines` how it ended. Returns the exit status.
-fn serve_with<R, I, W>(
-    rt: &R,
-    input: I,
-    output: W,
-    workers: u8,
-    roots: Vec<String>,
-    lines: Lines,
-) -> u8
+fn serve_with<R, I, W>(rt: &R, input: I, output: W, setup: Setup, lines: Lines) -> u8
 where
     R: Threads + Wait + Clock + Disk + AllocGlobal + Copy + Drop + Send + Sync + 'static,
     I: Read + Drop + Send + 'static,
     W: Write + Copy + Drop + Send + Sync + 'static,
 {
-    let outcome = match lines.copy() {
-        Ok(copy) => {
-            let setup = Setup {
-                workers,
-                roots,
-                lines: copy,
-            };
-            serve_editor(rt, rt.alloc(), input, output, setup, OpenGate)
-        }
-        Err(_) => Err(ScriptFault::Memory),
-    };
+    let outcome = serve_editor(rt, rt.alloc(), input, output, setup, OpenGate);
     let line = line_of(outcome).trim_end();
     if !line.is_empty() {
         lines.say(rt, line);
@@ -257,8 +283,19 @@ fn main(rt: HostRuntime) -> ExitCode {
             let _ = eprint!(rt; "{line}");
             status
         }
-        Task::Stdio { workers, roots } => {
-            run_for_editor(&rt, rt.stdin(), rt.stdout(), workers, roots.as_slice())
+        Task::Stdio {
+            workers,
+            roots,
+            only_roots,
+            no_include,
+        } => {
+            let wanted = Wanted {
+                workers,
+                folders: roots.as_slice(),
+                only_roots,
+                no_include,
+            };
+            run_for_editor(&rt, rt.stdin(), rt.stdout(), wanted)
         }
     };
     ExitCode::from(status)

@@ -13,13 +13,12 @@ use std::rt::{Clock, Env, Files};
 use std::time::SystemTime;
 use std::{fs, io, path};
 
-/// What a folder has.
+/// What a folder has, but for what a name hides that begins with a dot.
 #[derive(Drop)]
 pub(crate) struct Listing {
-    /// The paths of the entries whose names end in `.proto` and that are no folders. A link among them
-    /// may lead to a file later.
+    /// The paths of the files whose names end in `.proto`, and of links to such files, in byte order.
     pub(crate) files: Vec<String>,
-    /// The paths of the folders. A link to a folder is none.
+    /// The paths of the folders, in byte order. A link to a folder is none.
     pub(crate) folders: Vec<String>,
     /// Why an entry was passed over, if one was: the first.
     pub(crate) failure: Option<Failure>,
@@ -38,14 +37,11 @@ pub(crate) trait Disk {
     /// there. `None` if no file is there.
     fn file_at(&self, path: &str) -> Option<Stamp>;
 
-    /// What the file system tells of the folder at `path`. `None` if no folder is there.
-    fn folder_at(&self, path: &str) -> Option<Stamp>;
-
     /// What the folder `path` has.
     fn list(&self, path: &str) -> Result<Listing, Failure>;
 
-    /// The text of the file at `path`. `None` if no file is there. It waits where a pipe takes its place
-    /// before it is opened.
+    /// The text of the file at `path`, where `file_at` has found one. `None` if it is gone since. It waits
+    /// where a pipe has taken its place.
     fn text_at(&self, path: &str) -> Result<Option<String>, Failure>;
 
     /// The seconds since 1970, by the clock of the system.
@@ -77,21 +73,11 @@ impl<R: Files + Env + Clock + AllocGlobal + Clone + Drop> Disk for R {
         }
     }
 
-    fn folder_at(&self, path: &str) -> Option<Stamp> {
-        match fs::metadata(self, path) {
-            Ok(metadata) if metadata.is_dir() => Some(stamp_of(&metadata)),
-            _ => None,
-        }
-    }
-
     fn list(&self, path: &str) -> Result<Listing, Failure> {
         listing_of(self, path)
     }
 
     fn text_at(&self, path: &str) -> Result<Option<String>, Failure> {
-        if self.file_at(path).is_none() {
-            return Ok(None);
-        }
         match text_of(self, path) {
             // It was deleted since.
             Err(Failure::System(error)) if error.kind() == ErrorKind::NotFound => Ok(None),
@@ -142,32 +128,44 @@ fn listing_of<R: Files + AllocGlobal + Clone + Drop>(
     let base = joined(alloc, path, "/")?;
     for entry in fs::read_dir(rt, path)? {
         match entry {
-            Ok(entry) => {
-                let path = joined(alloc, base.as_str(), entry.file_name())?;
-                add_entry(rt, &mut listing, path)?;
-            }
+            Ok(entry) => add_entry(rt, &mut listing, base.as_str(), entry.file_name())?,
             Err(error) => listing.pass_over(Failure::of_entry(error)),
         }
     }
+    listing.files.sort()?;
+    listing.folders.sort()?;
     Ok(listing)
 }
 
-/// Adds the entry at `path` to `listing`.
+/// Adds the entry `name` to `listing`, what the folder has that `base` names with its slash.
 fn add_entry<R: Files + AllocGlobal>(
     rt: &R,
     listing: &mut Listing,
-    path: String,
+    base: &str,
+    name: &str,
 ) -> Result<(), Failure> {
+    if name.starts_with('.') {
+        return Ok(());
+    }
+    let path = joined(rt.alloc(), base, name)?;
     match is_folder(rt, path.as_str()) {
         Ok(true) => listing.folders.push(path)?,
         Ok(false) => {
-            if path.ends_with(".proto") {
+            if name.ends_with(".proto") && is_file(rt, path.as_str()) {
                 listing.files.push(path)?;
             }
         }
         Err(error) => listing.pass_over(Failure::System(error)),
     }
     Ok(())
+}
+
+/// Whether a file is at `path`, or a link leads to one from there.
+fn is_file<R: Files>(rt: &R, path: &str) -> bool {
+    match fs::metadata(rt, path) {
+        Ok(metadata) => metadata.is_file(),
+        Err(_) => false,
+    }
 }
 
 impl Listing {

@@ -8,8 +8,9 @@ use crate::editor::disk::Disk;
 use crate::editor::lines::Lines;
 use crate::library::Failure;
 use crossbeam_channel::{Receiver, Sender};
+use pq_editor::FileFault;
 use pq_session::Memory;
-use pq_view::Text;
+use pq_view::{Stamp, Text};
 use std::alloc::Global;
 use std::sync::Wait;
 use std::thread::Threads;
@@ -25,20 +26,34 @@ const ROOM: usize = 64;
 /// The most threads that are left to themselves. After them no file is read.
 const MOST_HUNG: u8 = 8;
 
-/// A file that was read.
+/// A path that was read.
 #[derive(Drop)]
 pub(crate) struct Fetched {
     pub(crate) path: Text,
+    /// What the file system told before the file was read. `None` where no file is.
+    pub(crate) stamp: Option<Stamp>,
+    /// The second of the clock before that.
+    pub(crate) now: i64,
     /// The text, or `None` where no file is or none can be read.
     pub(crate) text: Option<String>,
+    /// Why a file that is there has no text, where the editor is told so.
+    pub(crate) fault: Option<FileFault>,
 }
 
-/// What a file came to.
+/// What was read at a path.
 #[derive(Drop)]
-enum Got {
+enum Read {
     Text(Option<String>),
     /// It cannot be read.
     Failed(Failure),
+}
+
+/// What a path came to.
+#[derive(Drop)]
+struct Got {
+    stamp: Option<Stamp>,
+    now: i64,
+    read: Read,
 }
 
 /// Reads files, and remembers how many threads hang.
@@ -47,7 +62,7 @@ pub(crate) struct Fetcher {
     alloc: Global,
     lines: Lines,
     hung: u8,
-    /// The files that are to be read again later.
+    /// The paths that are to be read again later.
     later: Vec<Text>,
 }
 
@@ -62,12 +77,12 @@ impl Fetcher {
         }
     }
 
-    /// Takes the files that are to be read again later.
+    /// Takes the paths that are to be read again later.
     pub(crate) fn take_later(&mut self) -> Vec<Text> {
         mem::replace(&mut self.later, Vec::new(self.alloc))
     }
 
-    /// The files at `paths`, in their order, but for those that hang. A file that cannot be read leaves a
+    /// What is at `paths`, in their order, but for those that hang. A file that cannot be read leaves a
     /// line.
     pub(crate) fn fetch<H>(&mut self, rt: &H, paths: Vec<Text>) -> Result<Vec<Fetched>, Memory>
     where
@@ -87,8 +102,8 @@ impl Fetcher {
         Ok(fetched)
     }
 
-    /// Reads the files of `paths` from the index `start` on, up to one that hangs. Returns the index after
-    /// the last of them.
+    /// Reads `paths` from the index `start` on, up to one that hangs. Returns the index after the last of
+    /// them.
     fn fetch_on<H>(
         &mut self,
         rt: &H,
@@ -105,10 +120,7 @@ impl Fetcher {
             next = next.saturating_add(1);
             let path = path.copy()?;
             match came.recv_timeout(rt, Duration::from_millis(PATIENCE)) {
-                Ok(got) => {
-                    let text = self.text_in(rt, path.as_str(), got)?;
-                    fetched.push(Fetched { path, text })?;
-                }
+                Ok(got) => fetched.push(self.fetched_of(rt, path, got)?)?,
                 Err(_) => {
                     self.hung = self.hung.saturating_add(1);
                     self.lines
@@ -121,16 +133,44 @@ impl Fetcher {
         Ok(next)
     }
 
-    /// The text of the file at `path` that came. Why there is none is said.
-    fn text_in<H: Wait>(&self, rt: &H, path: &str, got: Got) -> Result<Option<String>, Memory> {
-        match got {
-            Got::Text(text) => Ok(text),
-            Got::Failed(failure) if failure.is_memory() => Err(Memory),
-            Got::Failed(failure) => {
+    /// What came of `path`. Why a file has no text is said.
+    fn fetched_of<H: Wait>(&self, rt: &H, path: Text, got: Got) -> Result<Fetched, Memory> {
+        let Got { stamp, now, read } = got;
+        let (text, fault) = self.text_in(rt, path.as_str(), read)?;
+        Ok(Fetched {
+            path,
+            stamp,
+            now,
+            text,
+            fault,
+        })
+    }
+
+    /// The text that was read at `path`, or why there is none, where the editor is told so. Any reason is
+    /// said.
+    fn text_in<H: Wait>(
+        &self,
+        rt: &H,
+        path: &str,
+        read: Read,
+    ) -> Result<(Option<String>, Option<FileFault>), Memory> {
+        match read {
+            Read::Text(text) => Ok((text, None)),
+            Read::Failed(failure) if failure.is_memory() => Err(Memory),
+            Read::Failed(failure) => {
                 self.lines.say_passed_over(rt, path, &failure);
-                Ok(None)
+                Ok((None, fault_of(&failure)))
             }
         }
+    }
+}
+
+/// What the editor is told of a file that cannot be read.
+fn fault_of(failure: &Failure) -> Option<FileFault> {
+    match failure {
+        Failure::TextTooLong => Some(FileFault::TooLong),
+        Failure::TextNotUtf8 => Some(FileFault::NotUtf8),
+        _ => None,
     }
 }
 
@@ -151,8 +191,7 @@ fn copies(alloc: Global, paths: &[Text], start: usize) -> Result<Vec<Text>, Memo
     Ok(list)
 }
 
-/// Starts a thread that reads the files at `paths` in their order. `Memory` also says that no thread
-/// could be started.
+/// Starts a thread that reads `paths` in their order. `Memory` also says that no thread could be started.
 fn begin<H>(rt: &H, paths: Vec<Text>) -> Result<Receiver<Got>, Memory>
 where
     H: Threads + Wait + Disk + AllocGlobal + Copy + Drop + Send + Sync + 'static,
@@ -165,15 +204,31 @@ where
     }
 }
 
-/// Reads the files at `paths`, up to one that nobody waits for.
+/// Reads `paths`, up to one that nobody waits for.
 fn read_all<H: Wait + Disk>(rt: &H, paths: Vec<Text>, sender: Sender<Got>) {
     for path in paths {
-        let got = match rt.text_at(path.as_str()) {
-            Ok(text) => Got::Text(text),
-            Err(failure) => Got::Failed(failure),
-        };
+        let got = got_at(rt, path.as_str());
         if sender.send(rt, got).is_err() {
             return;
         }
+    }
+}
+
+/// What is at `path`. It is read only where a file is.
+fn got_at<D: Disk>(disk: &D, path: &str) -> Got {
+    let now = disk.seconds();
+    let stamp = disk.file_at(path);
+    let read = match stamp {
+        Some(_) => read_at(disk, path),
+        None => Read::Text(None),
+    };
+    Got { stamp, now, read }
+}
+
+/// What is read of the file at `path`.
+fn read_at<D: Disk>(disk: &D, path: &str) -> Read {
+    match disk.text_at(path) {
+        Ok(text) => Read::Text(text),
+        Err(failure) => Read::Failed(failure),
     }
 }

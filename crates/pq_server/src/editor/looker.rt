@@ -1,13 +1,15 @@
 //! The looker of an editor's session: it looks at the disk, and tells the desk what is new.
 //!
-//! It looks every two seconds, and at once where the desk calls it. It reads the texts while it has no
-//! lock. A file that was changed since is read again at the next look.
+//! It looks at the watched paths every 1.5 seconds, and soon where the desk calls it. A look that took long
+//! is followed by a long pause, so that looks take a fiftieth of one processor. It asks for times and reads
+//! texts while it has no lock: where the file system hangs, it hangs alone. A file that was changed since
+//! it was read, and one that the desk has read since, is read again at the next look.
 use crate::editor::desk::Desk;
 use crate::editor::disk::Disk;
 use crate::editor::fetching::{Fetched, Fetcher, each_once};
 use crate::editor::files::Files;
 use crate::editor::lines::Lines;
-use crate::editor::watching::{News, Watch};
+use crate::editor::watching::Watch;
 use crate::serving::floor::Floor;
 use crossbeam_channel::Receiver;
 use pq_session::{Memory, ScriptFault};
@@ -15,37 +17,75 @@ use pq_view::Text;
 use std::alloc::Global;
 use std::io::Write;
 use std::sync::{Mutex, Wait};
-use std::thread;
 use std::thread::Threads;
-use std::time::{Clock, Duration};
+use std::time::{Clock, Duration, Instant};
 
-/// The longest time between two looks, in milliseconds.
+/// The shortest time from one look to the next, in milliseconds. In a longer pause the desk has its turn
+/// as often.
 const BETWEEN: u64 = 1500;
 
-/// The shortest time between two looks, in milliseconds.
-const PAUSE: u64 = 50;
+/// How often the time of a look goes into the pause after it.
+const RATIO: u32 = 50;
 
-/// The files that the looker hands to the desk under one hold of its lock.
+/// The shortest time from a look to one that the desk calls for, in milliseconds.
+const SOON: u64 = 50;
+
+/// How often the time of a look goes into the pause before one that the desk calls for.
+const SOON_RATIO: u32 = 10;
+
+/// The files that are read one after the other, and handed to the desk under one hold of its lock.
 const AT_ONCE: usize = 32;
 
-/// What the looker is called for.
-#[derive(Drop)]
-pub(crate) enum Call {
-    /// It is to watch what was read.
-    Begin(Watch),
-    /// It is to look now.
-    Look,
+/// The pauses after a look.
+#[derive(Clone, Copy)]
+struct Pauses {
+    /// Before the next look.
+    late: Duration,
+    /// Before the next look, if the desk calls for it.
+    soon: Duration,
+}
+
+/// The pauses after a look that took the time `took`.
+fn pauses_after(took: Duration) -> Pauses {
+    Pauses {
+        late: longer(took.saturating_mul(RATIO), BETWEEN),
+        soon: longer(took.saturating_mul(SOON_RATIO), SOON),
+    }
+}
+
+/// The longer of `time` and a number of milliseconds.
+fn longer(time: Duration, millis: u64) -> Duration {
+    let least = Duration::from_millis(millis);
+    if time < least { least } else { time }
+}
+
+/// The shorter of `time` and a number of milliseconds.
+fn shorter(time: Duration, millis: u64) -> Duration {
+    let most = Duration::from_millis(millis);
+    if time < most { time } else { most }
+}
+
+/// The time since `start`. It is none if the clock cannot be read.
+fn time_since<C: Clock>(clock: &C, start: Option<Instant>) -> Duration {
+    match start {
+        Some(start) => start.elapsed(clock).unwrap_or(Duration::ZERO),
+        None => Duration::ZERO,
+    }
 }
 
 /// What the looker holds.
 #[derive(Drop)]
 struct Looker<'a, 'b, F: Floor<H>, H, W> {
     rt: &'a H,
+    alloc: Global,
     desk: &'a Mutex<Desk<'b, F, H, W>>,
     files: &'a Mutex<Files>,
-    lines: Lines,
     fetcher: Fetcher,
-    watch: Option<Watch>,
+    watch: Watch,
+    /// The pauses after the last look.
+    pauses: Pauses,
+    /// When the last look ended, and what it found was told.
+    ended: Option<Instant>,
 }
 
 impl<'a, 'b, F, H, W> Looker<'a, 'b, F, H, W>
@@ -54,105 +94,175 @@ where
     H: Threads + Wait + Clock + Disk + AllocGlobal + Copy + Drop + Send + Sync + 'static,
     W: Write + Copy,
 {
-    /// Looks at the disk, and tells the desk what is new. Returns whether the session goes on.
-    fn look(&mut self) -> Result<bool, ScriptFault> {
-        let Some(watch) = &mut self.watch else {
-            return Ok(true);
-        };
-        let touched = self.files.lock(self.rt).take_touched();
-        let News { paths, passed_over } = watch.look(self.rt)?;
-        for it in &passed_over {
-            self.lines
-                .say_passed_over(self.rt, it.path.as_str(), &it.failure);
-        }
-        let paths = both(paths, touched)?;
-        if paths.is_empty() {
-            return Ok(true);
-        }
-        let fetched = self.fetcher.fetch(self.rt, paths)?;
-        let later = self.fetcher.take_later();
-        self.files.lock(self.rt).touch(&later)?;
-        self.tell(fetched)
-    }
-
-    /// Whether the file of `it` is as the last look saw it. If not, it is read again after the next look,
-    /// and the desk may have a newer text.
-    fn is_of_now(&self, it: &Fetched) -> bool {
-        match &self.watch {
-            Some(watch) => self.rt.file_at(it.path.as_str()) == watch.stamp_at(it.path.as_str()),
-            None => false,
-        }
-    }
-
-    /// Hands those files of `fetched` to the desk that were not changed since. Returns whether the session
-    /// goes on.
-    fn tell(&self, fetched: Vec<Fetched>) -> Result<bool, ScriptFault> {
-        let mut fetched = fetched.into_iter();
+    /// Waits for the next look. Meanwhile the desk has its turn. Returns whether the session goes on.
+    fn wait(&self, calls: &Receiver<()>) -> Result<bool, ScriptFault> {
+        let mut is_called = false;
         for _ in self.rt.forever() {
-            let mut desk = self.desk.lock(self.rt);
-            for _ in 0..AT_ONCE {
-                match fetched.next() {
-                    Some(it) => {
-                        if self.is_of_now(&it) && !desk.set_on_disk(it)? {
-                            return Ok(false);
-                        }
+            let left = self.left(is_called);
+            if left.is_zero() {
+                return Ok(true);
+            }
+            match calls.recv_timeout(self.rt, shorter(left, BETWEEN)) {
+                Ok(()) => is_called = true,
+                Err(error) => {
+                    if error.is_disconnected() {
+                        return Ok(false);
                     }
-                    None => {
-                        desk.hand_on()?;
+                    if left <= Duration::from_millis(BETWEEN) {
                         return Ok(true);
+                    }
+                    if !self.tick()? {
+                        return Ok(false);
                     }
                 }
             }
         }
         unreachable!()
     }
+
+    /// What is left of the pause before the next look, for which the desk has called or not.
+    fn left(&self, is_called: bool) -> Duration {
+        let pause = if is_called {
+            self.pauses.soon
+        } else {
+            self.pauses.late
+        };
+        pause.saturating_sub(time_since(self.rt, self.ended))
+    }
+
+    /// Gives the desk its turn. Returns whether the session goes on.
+    fn tick(&self) -> Result<bool, ScriptFault> {
+        self.desk.lock(self.rt).tick()
+    }
+
+    /// Looks at the disk, and tells the desk what is new. Returns whether the session goes on.
+    fn look(&mut self) -> Result<bool, ScriptFault> {
+        let paths = self.news()?;
+        let goes_on = if paths.is_empty() {
+            self.tick()?
+        } else {
+            self.take_in(&paths)?
+        };
+        self.ended = Instant::now(self.rt).ok();
+        Ok(goes_on)
+    }
+
+    /// The paths that are to be read: what a look finds new, and what was touched.
+    fn news(&mut self) -> Result<Vec<Text>, Memory> {
+        self.add_watched()?;
+        let mut touched = self.files.lock(self.rt).take_touched();
+        let start = Instant::now(self.rt).ok();
+        let mut paths = self.watch.look(self.rt)?;
+        self.pauses = pauses_after(time_since(self.rt, start));
+        paths.append(&mut touched)?;
+        each_once(paths)
+    }
+
+    /// Watches what was read and looked for since the last time.
+    fn add_watched(&mut self) -> Result<(), Memory> {
+        let watched = self.files.lock(self.rt).take_watched();
+        self.watch.add_all(watched)
+    }
+
+    /// Reads `paths`, and tells the desk what is there. Returns whether the session goes on.
+    fn take_in(&mut self, paths: &[Text]) -> Result<bool, ScriptFault> {
+        for some in paths.chunks(AT_ONCE) {
+            let fetched = self.fetch(some)?;
+            if !self.tell(fetched)? {
+                return Ok(false);
+            }
+        }
+        self.settle()
+    }
+
+    /// What is at `paths`, but for files that hang and files that were changed since they were read: those
+    /// are read again after the next look.
+    fn fetch(&mut self, paths: &[Text]) -> Result<Vec<Fetched>, Memory> {
+        let fetched = self.fetcher.fetch(self.rt, copies(self.alloc, paths)?)?;
+        let mut again = self.fetcher.take_later();
+        let mut kept = Vec::new(self.alloc);
+        for it in fetched {
+            if self.rt.file_at(it.path.as_str()) == it.stamp {
+                kept.push(it)?;
+            } else {
+                again.push(it.path.copy()?)?;
+            }
+        }
+        self.files.lock(self.rt).touch(&again)?;
+        Ok(kept)
+    }
+
+    /// Hands `fetched` to the desk, but for what the desk has read since the look: that is read again
+    /// after the next look. Returns whether the session goes on.
+    fn tell(&mut self, fetched: Vec<Fetched>) -> Result<bool, ScriptFault> {
+        let mut desk = self.desk.lock(self.rt);
+        self.add_watched()?;
+        for it in fetched {
+            if self.watch.is_added(&it.path) {
+                self.touch(&it.path)?;
+            } else if !desk.set_on_disk(it)? {
+                return Ok(false);
+            }
+        }
+        Ok(true)
+    }
+
+    /// Has `path` read again after the next look.
+    fn touch(&self, path: &Text) -> Result<(), Memory> {
+        let mut again = Vec::new(self.alloc);
+        again.push(path.copy()?)?;
+        self.files.lock(self.rt).touch(&again)
+    }
+
+    /// Has the desk do what follows from what it was told. Returns whether the session goes on.
+    fn settle(&self) -> Result<bool, ScriptFault> {
+        let mut desk = self.desk.lock(self.rt);
+        if !desk.settle()? {
+            return Ok(false);
+        }
+        desk.hand_on()?;
+        Ok(true)
+    }
 }
 
-/// The paths of `news` and of `touched`, each once.
-fn both(news: Vec<Text>, touched: Vec<Text>) -> Result<Vec<Text>, Memory> {
-    let mut paths = news;
-    let mut touched = touched;
-    paths.append(&mut touched)?;
-    each_once(paths)
+/// Copies of `paths`.
+fn copies(alloc: Global, paths: &[Text]) -> Result<Vec<Text>, Memory> {
+    let mut list = Vec::new(alloc);
+    for path in paths {
+        list.push(path.copy()?)?;
+    }
+    Ok(list)
 }
 
-/// Looks at the disk until the desk ends it. An error ends it, too.
+/// Looks at the disk until the way of `calls` is dropped or the session does not go on. An error ends it,
+/// too.
 pub(crate) fn look_all<F, H, W>(
     rt: &H,
     alloc: Global,
     desk: &Mutex<Desk<'_, F, H, W>>,
     files: &Mutex<Files>,
     lines: Lines,
-    calls: Receiver<Call>,
+    calls: Receiver<()>,
 ) -> Result<(), ScriptFault>
 where
     F: Floor<H>,
     H: Threads + Wait + Clock + Disk + AllocGlobal + Copy + Drop + Send + Sync + 'static,
     W: Write + Copy,
 {
-    let fetcher = Fetcher::new(alloc, lines.copy()?);
     let mut looker = Looker {
         rt,
+        alloc,
         desk,
         files,
-        lines,
-        fetcher,
-        watch: None,
+        fetcher: Fetcher::new(alloc, lines),
+        watch: Watch::new(alloc),
+        pauses: pauses_after(Duration::ZERO),
+        ended: Instant::now(rt).ok(),
     };
     for _ in rt.forever() {
-        match calls.recv_timeout(rt, Duration::from_millis(BETWEEN)) {
-            Ok(Call::Begin(watch)) => looker.watch = Some(watch),
-            Ok(Call::Look) => {}
-            Err(error) => {
-                if error.is_disconnected() {
-                    return Ok(());
-                }
-            }
-        }
-        if !looker.look()? {
+        if !looker.wait(&calls)? || !looker.look()? {
             return Ok(());
         }
-        thread::sleep(rt, Duration::from_millis(PAUSE));
     }
     unreachable!()
 }

@@ -1,252 +1,105 @@
-//! What is known of the folders and files below the roots, and what a look at the disk finds new.
+//! The paths that a session has read or looked for, and what a look at the disk finds new of them.
 //!
-//! A look asks for the times of each known folder and file. It lists a folder again only where its times
-//! changed. Which files are to be read again is a question of `pq_view::Looks`.
-use crate::editor::disk::{Disk, Listing};
-use crate::library::Failure;
+//! A look asks for the times of each watched path. A path where no file is is watched, too. Which files
+//! are to be read again is a question of `pq_view::Looks`.
+use crate::editor::disk::Disk;
+use crate::editor::fetching::each_once;
 use pq_session::Memory;
 use pq_view::{Looks, Stamp, Text};
 use std::alloc::Global;
-use std::collections::BTreeMap;
+use std::collections::BTreeSet;
 use std::mem;
 
-/// The most folders on the way from a root to a file.
-const MAX_DEPTH: usize = 32;
-
-/// The most files that are watched.
-const MOST_FILES: usize = 16_384;
-
-/// The most folders that are watched.
-const MOST_FOLDERS: usize = 16_384;
-
-/// A folder or a file that was passed over.
+/// A path as it was when it was read.
 #[derive(Drop)]
-pub(crate) struct PassedOver {
-    pub(crate) path: String,
-    pub(crate) failure: Failure,
+pub(crate) struct Watched {
+    pub(crate) path: Text,
+    /// What the file system told before the file was read. `None` where no file is.
+    pub(crate) stamp: Option<Stamp>,
+    /// The second of the clock before that.
+    pub(crate) now: i64,
 }
 
-/// What a look found.
-#[derive(Drop)]
-pub(crate) struct News {
-    /// The paths of the files that are new, changed or gone.
-    pub(crate) paths: Vec<Text>,
-    pub(crate) passed_over: Vec<PassedOver>,
-}
-
-/// What the last look found below the roots.
+/// The watched paths, and what was seen of them last.
 #[derive(Drop)]
 pub(crate) struct Watch {
     alloc: Global,
-    roots: Vec<Text>,
-    /// What each folder had when it was listed.
-    listings: BTreeMap<String, Listing>,
-    folders: Looks,
+    paths: BTreeSet<Text>,
+    /// The files that were there.
     files: Looks,
-    has_said_too_many: bool,
-}
-
-/// A look that is under way.
-#[derive(Drop)]
-struct Look {
-    now: i64,
-    listings: BTreeMap<String, Listing>,
-    folders: Looks,
-    files: Looks,
-    /// The folders of the next level.
-    deeper: Vec<String>,
-    passed_over: Vec<PassedOver>,
-    is_full: bool,
+    /// The paths that were added since the last look.
+    added: BTreeSet<Text>,
+    /// Paths that the next look returns, whatever it sees.
+    again: Vec<Text>,
 }
 
 impl Watch {
-    /// A watch of `roots`, of which nothing is known. The root of the file system is not watched.
-    pub(crate) fn new(alloc: Global, roots: Vec<Text>) -> Watch {
+    /// A watch of no path.
+    pub(crate) fn new(alloc: Global) -> Watch {
         Watch {
             alloc,
-            roots,
-            listings: BTreeMap::new(alloc),
-            folders: Looks::new(alloc),
+            paths: BTreeSet::new(alloc),
             files: Looks::new(alloc),
-            has_said_too_many: false,
+            added: BTreeSet::new(alloc),
+            again: Vec::new(alloc),
         }
     }
 
-    /// Looks at the disk. Returns what is new since the look before.
-    pub(crate) fn look<D: Disk>(&mut self, disk: &D) -> Result<News, Memory> {
-        let mut look = Look::new(self.alloc, disk.seconds());
-        for root in &self.roots {
-            if !root.as_str().is_empty() {
-                look.begin(disk, self.alloc, root.as_str())?;
-            }
+    /// Watches the path of `watched` from now on. A path that is watched counts as seen so.
+    pub(crate) fn add(&mut self, watched: Watched) -> Result<(), Memory> {
+        let Watched { path, stamp, now } = watched;
+        match stamp {
+            Some(stamp) => self.files.see(path.as_str(), stamp, now)?,
+            None => self.lose(&path)?,
         }
-        for _ in 0..=MAX_DEPTH {
-            let level = look.next_level(self.alloc);
-            for folder in level {
-                self.look_at(disk, &mut look, folder)?;
-            }
-        }
-        self.take(look)
-    }
-
-    /// Looks at `folder` and the files in it, if it was not yet looked at.
-    fn look_at<D: Disk>(
-        &mut self,
-        disk: &D,
-        look: &mut Look,
-        folder: String,
-    ) -> Result<(), Memory> {
-        if look.listings.contains_key(folder.as_str()) || look.listings.len() >= MOST_FOLDERS {
-            return Ok(());
-        }
-        let Some(stamp) = disk.folder_at(folder.as_str()) else {
-            return Ok(());
-        };
-        look.folders.see(folder.as_str(), stamp, look.now)?;
-        match self.listing_of(disk, look, folder.as_str())? {
-            Some(listing) => look.add(disk, self.alloc, folder, listing),
-            None => Ok(()),
-        }
-    }
-
-    /// What `folder` has. It is listed again only if it is news.
-    fn listing_of<D: Disk>(
-        &mut self,
-        disk: &D,
-        look: &mut Look,
-        folder: &str,
-    ) -> Result<Option<Listing>, Memory> {
-        if !look.folders.is_news(&self.folders, folder) {
-            if let Some(known) = self.listings.remove(folder) {
-                return Ok(Some(known));
-            }
-        }
-        look.list(disk, self.alloc, folder)
-    }
-
-    /// What the last look saw of the file at `path`.
-    pub(crate) fn stamp_at(&self, path: &str) -> Option<Stamp> {
-        self.files.stamp(path)
-    }
-
-    /// Keeps what `look` found. Returns what is new.
-    fn take(&mut self, look: Look) -> Result<News, Memory> {
-        let Look {
-            listings,
-            folders,
-            files,
-            passed_over,
-            is_full,
-            ..
-        } = look;
-        let mut passed_over = passed_over;
-        let paths = files.news(&self.files)?;
-        if is_full && !self.has_said_too_many {
-            self.has_said_too_many = true;
-            let path = String::from_str(self.alloc, self.first_root())?;
-            passed_over.push(PassedOver {
-                path,
-                failure: Failure::TooManyToWatch,
-            })?;
-        }
-        self.listings = listings;
-        self.folders = folders;
-        self.files = files;
-        Ok(News { paths, passed_over })
-    }
-
-    /// The path of the first root.
-    fn first_root(&self) -> &str {
-        match self.roots.first() {
-            Some(root) => root.as_str(),
-            None => "/",
-        }
-    }
-}
-
-impl Look {
-    /// A look at the second `now`, which has found nothing.
-    fn new(alloc: Global, now: i64) -> Look {
-        Look {
-            now,
-            listings: BTreeMap::new(alloc),
-            folders: Looks::new(alloc),
-            files: Looks::new(alloc),
-            deeper: Vec::new(alloc),
-            passed_over: Vec::new(alloc),
-            is_full: false,
-        }
-    }
-
-    /// Adds the folder `root` to the first level. A root that is no folder is passed over.
-    fn begin<D: Disk>(&mut self, disk: &D, alloc: Global, root: &str) -> Result<(), Memory> {
-        if disk.folder_at(root).is_some() {
-            self.deeper.push(String::from_str(alloc, root)?)?;
-            return Ok(());
-        }
-        match disk.list(root) {
-            Ok(_) => Ok(()),
-            Err(failure) => self.pass_over(alloc, root, failure),
-        }
-    }
-
-    /// The folders of the next level, which are no longer those of it.
-    fn next_level(&mut self, alloc: Global) -> Vec<String> {
-        mem::replace(&mut self.deeper, Vec::new(alloc))
-    }
-
-    /// What `folder` has. A folder that cannot be listed is passed over.
-    fn list<D: Disk>(
-        &mut self,
-        disk: &D,
-        alloc: Global,
-        folder: &str,
-    ) -> Result<Option<Listing>, Memory> {
-        match disk.list(folder) {
-            Ok(mut listing) => {
-                if let Some(failure) = listing.failure.take() {
-                    self.pass_over(alloc, folder, failure)?;
-                }
-                Ok(Some(listing))
-            }
-            Err(failure) => {
-                self.pass_over(alloc, folder, failure)?;
-                Ok(None)
-            }
-        }
-    }
-
-    /// Keeps why what is at `path` was passed over.
-    fn pass_over(&mut self, alloc: Global, path: &str, failure: Failure) -> Result<(), Memory> {
-        if failure.is_memory() {
-            return Err(Memory);
-        }
-        let path = String::from_str(alloc, path)?;
-        self.passed_over.push(PassedOver { path, failure })?;
+        self.added.insert(path.copy()?)?;
+        self.paths.insert(path)?;
         Ok(())
     }
 
-    /// Looks at the files of `listing`, what `folder` has, and goes on to its folders.
-    fn add<D: Disk>(
-        &mut self,
-        disk: &D,
-        alloc: Global,
-        folder: String,
-        listing: Listing,
-    ) -> Result<(), Memory> {
-        for path in &listing.files {
-            if self.files.len() >= MOST_FILES {
-                self.is_full = true;
-                break;
-            }
+    /// No file was at `path`. Where the last look saw one, a later file may have its times, as after a
+    /// folder could not be entered for a while: so the path is returned by the next look.
+    fn lose(&mut self, path: &Text) -> Result<(), Memory> {
+        if self.files.stamp(path.as_str()).is_some() {
+            self.again.push(path.copy()?)?;
+        }
+        Ok(())
+    }
+
+    /// Watches each path of `list`, as `add` does.
+    pub(crate) fn add_all(&mut self, list: Vec<Watched>) -> Result<(), Memory> {
+        for watched in list {
+            self.add(watched)?;
+        }
+        Ok(())
+    }
+
+    /// Whether `path` was added since the last look.
+    pub(crate) fn is_added(&self, path: &Text) -> bool {
+        self.added.contains(path)
+    }
+
+    /// Asks for the times of each watched path. Returns those that are new, changed or gone since they
+    /// were seen last, each once, in byte order.
+    pub(crate) fn look<D: Disk>(&mut self, disk: &D) -> Result<Vec<Text>, Memory> {
+        let seen = self.seen(disk)?;
+        let mut news = seen.news(&self.files)?;
+        let mut again = mem::replace(&mut self.again, Vec::new(self.alloc));
+        news.append(&mut again)?;
+        self.files = seen;
+        self.added.clear();
+        each_once(news)
+    }
+
+    /// The files that are at the watched paths now.
+    fn seen<D: Disk>(&self, disk: &D) -> Result<Looks, Memory> {
+        let now = disk.seconds();
+        let mut seen = Looks::new(self.alloc);
+        for path in self.paths.iter() {
             if let Some(stamp) = disk.file_at(path.as_str()) {
-                self.files.see(path.as_str(), stamp, self.now)?;
+                seen.see(path.as_str(), stamp, now)?;
             }
         }
-        for path in &listing.folders {
-            self.deeper.push(String::from_str(alloc, path.as_str())?)?;
-        }
-        self.listings.insert(folder, listing)?;
-        Ok(())
+        Ok(seen)
     }
 }

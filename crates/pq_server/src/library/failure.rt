@@ -30,9 +30,11 @@ pub(crate) enum Failure {
     /// A document has other text than the editor takes it to have.
     #[error("the ranges of a change do not fit the text; the document is taken as closed")]
     BadRanges,
-    /// Below the roots are more files than are watched.
-    #[error("there are more files than are watched")]
-    TooManyToWatch,
+    /// A walk met one of its limits.
+    #[error(
+        "not all files below the folders are found: there are too many, they lie too deep, or the walk takes too long"
+    )]
+    WalkCut,
     /// Below the folder are more than `MAX_FILES` files.
     #[error("there are more than {most} files whose names end in .proto", most = MAX_FILES)]
     TooManyFiles,

@@ -257,10 +257,17 @@ fn shown_words(alloc: Global, words: &str) -> Result<String, Memory> {
             let loose = loose_word(loose);
             format!(in alloc; "listen {port} {workers} {library} {sessions}{loose}")
         }
-        Ok(Task::Stdio { workers, roots }) => {
+        Ok(
+            Task::Stdio {
+                workers,
+                roots,
+                only_roots,
+                no_include,
+            },
+        ) => {
             let count = roots.len();
             let first = roots.first().copied().unwrap_or("-");
-            format!(in alloc; "stdio {workers} {count} {first}")
+            format!(in alloc; "stdio {workers} {count} {first} {only_roots} {no_include}")
         }
         Err(_) => String::from_str(alloc, "refused"),
     }
@@ -321,6 +328,27 @@ fn command_lines_of_listen(rt: HostRuntime) -> Result<(), Fail> {
         pq_server listen --port 1 --workers 2 --lib a/b --sessions 1 => listen 1 2 a/b 1\n\
         pq_server listen --sessions 4294967295 --workers=2 --port=1 => listen 1 2 - 4294967295\n\
         pq_server listen --port 1 --workers 2 --loose => listen 1 2 - 0 loose\
+        ",
+    )
+}
+
+// The number of the roots, the first, whether no others are searched, and whether the folder that comes
+// with the program is left out.
+#[test]
+fn command_lines_of_stdio(rt: HostRuntime) -> Result<(), Fail> {
+    check_words(
+        &rt,
+        9,
+        "\
+        pq_server stdio => stdio 4 0 - false false\n\
+        pq_server stdio --stdio --workers 32 => stdio 32 0 - false false\n\
+        pq_server stdio --workers 33 => refused\n\
+        pq_server stdio --root a/b --root=c => stdio 4 2 a/b false false\n\
+        pq_server stdio --root => refused\n\
+        pq_server stdio --only-roots => stdio 4 0 - true false\n\
+        pq_server stdio --no-include --root a => stdio 4 1 a false true\n\
+        pq_server stdio --only-roots --no-include => stdio 4 0 - true true\n\
+        pq_server stdio --only-roots=a => refused\
         ",
     )
 }
