@@ -13,6 +13,10 @@ use std::alloc::Global;
 /// The most bytes of a file of `buf` that is read.
 const MOST_BYTES: u64 = 65_536;
 
+/// The most roots that missing imports show, and the most that are folders of documents: each name is
+/// looked for below each root.
+const MOST_ADDED: usize = 64;
+
 /// A folder, and how it is shown.
 #[derive(Drop)]
 pub(crate) struct Place {
@@ -144,10 +148,10 @@ impl Roots {
             .position(|it| it.place.root.as_str() == root)
     }
 
-    /// Adds the root `root` that a missing import shows. Returns whether it is new: it is not among the
-    /// roots, and others than those of the command line may be added.
+    /// Adds the root `root` that a missing import shows. Returns whether it did: it is not among the roots,
+    /// others than those of the command line may be added, and there is room.
     pub(crate) fn add_found(&mut self, root: Text) -> Result<bool, Memory> {
-        if self.is_only {
+        if self.is_only || self.found.len() >= MOST_ADDED {
             return Ok(false);
         }
         let order = self.whole_order()?;
@@ -161,10 +165,11 @@ impl Roots {
     }
 
     /// Adds the folder of the document at `path`, which the editor writes as `face`, if it lies below no
-    /// root but the last. Returns whether it did. The root of the file system is not added.
+    /// root but the last, and there is room. Returns whether it did. The root of the file system is not added.
     pub(crate) fn add_own(&mut self, path: &str, face: &str) -> Result<bool, Memory> {
         let root = folder_of(path);
-        if self.is_only || root.is_empty() || self.is_covered(path)? {
+        let is_full = self.is_only || self.own.len() >= MOST_ADDED;
+        if is_full || root.is_empty() || self.is_covered(path)? {
             return Ok(false);
         }
         self.own.push(Place {
