@@ -1,7 +1,7 @@
 -- What one editor is shown (LSP 3.17, "Diagnostic", "PublishDiagnosticsParams"): the diagnostics of
--- a file with their severities, the lists that are sent without being asked for, and the texts that
--- edits make.
-use Rattle.std.specs.Prelude.{ℕ, ℤ, Bool, true, false, not, ◌&&◌, nat_le, List, [], ◌++◌, filter, map, codes, decimal, if◌then◌else◌, Option, Some, None, option_and_then, option_map}
+-- a file with their severities and messages, the lists that are sent without being asked for, and the
+-- texts that edits make.
+use Rattle.std.specs.Prelude.{ℕ, ◌-◌, ℤ, Bool, true, false, not, ◌&&◌, nat_le, List, [], ◌∷◌, ◌++◌, length, take, filter, flat_map, map, codes, decimal, if◌then◌else◌, Option, Some, None, option_and_then, option_map}
 use Rattle.std.specs.Fmt.{signed_decimal}
 use Rattle.std.specs.List.{list_any}
 use Rattle.std.specs.Option.{option_eq}
@@ -16,7 +16,7 @@ use Rattle.pq_rules.specs.declared.turn.Answer.{Answer}
 use Rattle.pq_rules.specs.declared.turn.Answer.TheVariants.{Value, Cycle}
 use Rattle.pq_checks.specs.Codes.{code_text, severity, severity_number}
 use Rattle.pq_checks.specs.declared.errors.code.Code.{Code}
-use Rattle.pq_checks.specs.declared.errors.code.Code.TheVariants.{ImportWithError, TypeNotFound}
+use Rattle.pq_checks.specs.declared.errors.code.Code.TheVariants.{AggregateConstant, ExtendBlock, FloatConstant, ImportNotFound, ImportWithError, TypeNotFound}
 use Rattle.pq_checks.specs.declared.errors.code.Severity.TheVariants.{Information}
 use Rattle.pq_checks.specs.declared.errors.diagnostic.Diagnostic.{Diagnostic}
 use Rattle.pq_checks.specs.declared.errors.diagnostic.Diagnosed.{Diagnosed}
@@ -38,7 +38,19 @@ use Rattle.pq_session.specs.Labels.{label_model}
 use Rattle.pq_session.specs.Reply.{reply_data, located_text}
 use Rattle.pq_session.specs.Replies.{reply_text}
 
--- ---- the severities
+-- ---- which are shown, and their severities
+
+-- `is_unsaid c` is whether `c` is the code of a part of a file that is not read: a value of a message, a
+-- block of `extend`, or a value with a fraction. No editor is told of it, since the file is correct.
+abbrev pub is_unsaid : Code → Bool
+is_unsaid AggregateConstant = true
+is_unsaid ExtendBlock = true
+is_unsaid FloatConstant = true
+is_unsaid _ = false
+
+-- `has_unsaid ds` is whether one of the diagnostics `ds` is of a part that is not read.
+abbrev pub has_unsaid : List Diagnostic → Bool
+has_unsaid ds = list_any (λ (f : Diagnostic). is_unsaid f.code) ds
 
 -- `is_unread c` is whether `c` is the code of an import that is not read: the imported file has an
 -- error of its own, so it has no fields and values, and has the definitions that its braces show.
@@ -57,9 +69,10 @@ may_follow TypeNotFound = true
 may_follow _ = false
 
 -- `is_shown unread f` is whether the diagnostic `f` is shown, where `unread` is whether an import of
--- the file is not read: that import is not told, since the imported file shows its error itself.
+-- the file is not read: that import is not told, since the imported file shows its error itself. Nor is
+-- a part of the file that is not read.
 abbrev pub is_shown : Bool → Diagnostic → Bool
-is_shown unread f = not (unread && is_unread f.code)
+is_shown unread f = not (unread && is_unread f.code) && not (is_unsaid f.code)
 
 -- `shown_severity unread c` is the number of the severity that is shown of an error of the code `c`,
 -- where `unread` is whether an import of the file is not read: what may follow from that is
@@ -67,38 +80,82 @@ is_shown unread f = not (unread && is_unread f.code)
 abbrev pub shown_severity : Bool → Code → ℕ
 shown_severity unread c = if unread && may_follow c then severity_number Information else severity_number (severity c)
 
+-- ---- the messages
+
+-- `is_missing c` is whether `c` is the code of an import that is not found.
+abbrev pub is_missing : Code → Bool
+is_missing ImportNotFound = true
+is_missing _ = false
+
+-- `has_missing ds` is whether one of the diagnostics `ds` is an import that is not found.
+abbrev pub has_missing : List Diagnostic → Bool
+has_missing ds = list_any (λ (f : Diagnostic). is_missing f.code) ds
+
+-- `shown_message looked f` is the message that is shown of the diagnostic `f`: its own, and `looked`
+-- after it if `f` is an import that is not found. Then `looked` says where it was looked for.
+abbrev pub shown_message : List ℕ → Diagnostic → List ℕ
+shown_message looked f = if is_missing f.code then f.text ++ looked else f.text
+
+-- `later_folders folders` is the paths `folders`, each after a comma.
+abbrev pub later_folders : List (List ℕ) → List ℕ
+later_folders folders = flat_map (λ folder. codes ", " ++ folder) folders
+
+-- `folders_text folders` is the paths `folders`, with commas between.
+abbrev pub folders_text : List (List ℕ) → List ℕ
+folders_text [] = []
+folders_text (folder ∷ folders) = folder ++ later_folders folders
+
+-- `most_named` is how many folders are named at most.
+abbrev pub most_named : ℕ
+most_named = 8
+
+-- `more_folders n` is that there are `n` folders beside those that are named.
+abbrev pub more_folders : ℕ → List ℕ
+more_folders 0 = []
+more_folders 1 = codes " and 1 more folder"
+more_folders n = codes " and " ++ (decimal n ++ codes " more folders")
+
+-- `looked_in folders` is the text that says that an import was looked for below `folders`. It names the
+-- first ones, and counts the others. It is empty where there is no folder.
+abbrev pub looked_in : List (List ℕ) → List ℕ
+looked_in [] = []
+looked_in (folder ∷ folders) =
+    codes " (looked for in " ++ (folders_text (take most_named (folder ∷ folders)) ++ (more_folders (length (folder ∷ folders) - most_named) ++ codes ")"))
+
 -- ---- lists and reports
 
--- `item_data number file f` is the error `f` of a file that is read as `file`, with the severity of
--- this number (LSP 3.17, "Diagnostic").
-abbrev pub item_data : ℕ → ParsedFile → Diagnostic → Data
-item_data n file f =
-    object (member (codes "code") (string (code_text f.code)) (member (codes "message") (string f.text)
+-- `item_data number message file f` is the error `f` of a file that is read as `file`, with the
+-- severity of this number and this message (LSP 3.17, "Diagnostic").
+abbrev pub item_data : ℕ → List ℕ → ParsedFile → Diagnostic → Data
+item_data n message file f =
+    object (member (codes "code") (string (code_text f.code)) (member (codes "message") (string message)
     (member (codes "range") (range_data (position_in file f.start) (position_in file f.end))
     (member (codes "severity") (number (unsigned n)) (member (codes "source") (string (codes "proto")) no_members)))))
 
--- `shown_data unread file f` is the error `f` of a file that is read as `file`, as it is shown.
-abbrev pub shown_data : Bool → ParsedFile → Diagnostic → Data
-shown_data unread file f = item_data (shown_severity unread f.code) file f
+-- `shown_data unread looked file f` is the error `f` of a file that is read as `file`, as it is shown
+-- where imports were looked for as `looked` says.
+abbrev pub shown_data : Bool → List ℕ → ParsedFile → Diagnostic → Data
+shown_data unread looked file f = item_data (shown_severity unread f.code) (shown_message looked f) file f
 
--- `shown_items unread d` is the list of those of the diagnostics `d` that are shown, as they are shown.
-abbrev pub shown_items : Bool → Diagnosed → Data
-shown_items unread d = list_data (map (shown_data unread d.file) (filter (is_shown unread) d.diagnostics))
+-- `shown_items unread looked d` is the list of those of the diagnostics `d` that are shown, as they are
+-- shown.
+abbrev pub shown_items : Bool → List ℕ → Diagnosed → Data
+shown_items unread looked d = list_data (map (shown_data unread looked d.file) (filter (is_shown unread) d.diagnostics))
 
--- `shown_list d` is the text of the list of the diagnostics `d`, as they are shown.
-unfoldable pub shown_list : Diagnosed → List ℕ
-shown_list d = compact_text (shown_items (has_unread d.diagnostics) d)
+-- `shown_list looked d` is the text of the list of the diagnostics `d`, as they are shown.
+unfoldable pub shown_list : List ℕ → Diagnosed → List ℕ
+shown_list looked d = compact_text (shown_items (has_unread d.diagnostics) looked d)
 
--- `shown_report unread d revision` is the report of the diagnostics `d` at a revision of the sources,
--- its `resultId` (LSP 3.17, "RelatedFullDocumentDiagnosticReport"), as they are shown.
-abbrev pub shown_report : Bool → Diagnosed → ℕ → Data
-shown_report unread d revision =
-    object (member (codes "items") (shown_items unread d) (member (codes "kind") (string (codes "full")) (member (codes "resultId") (string (decimal revision)) no_members)))
+-- `shown_report unread looked d revision` is the report of the diagnostics `d` at a revision of the
+-- sources, its `resultId` (LSP 3.17, "RelatedFullDocumentDiagnosticReport"), as they are shown.
+abbrev pub shown_report : Bool → List ℕ → Diagnosed → ℕ → Data
+shown_report unread looked d revision =
+    object (member (codes "items") (shown_items unread looked d) (member (codes "kind") (string (codes "full")) (member (codes "resultId") (string (decimal revision)) no_members)))
 
--- `shown_text label unread d revision` is the text of the response that reports the diagnostics `d`
--- at `revision`, as they are shown.
-unfoldable pub shown_text : LabelModel → Bool → Diagnosed → ℕ → List ℕ
-shown_text label unread d revision = compact_text (reply_data (label_data label) (shown_report unread d revision))
+-- `shown_text label looked d revision` is the text of the response that reports the diagnostics `d` at
+-- `revision`, as they are shown.
+unfoldable pub shown_text : LabelModel → List ℕ → Diagnosed → ℕ → List ℕ
+shown_text label looked d revision = compact_text (reply_data (label_data label) (shown_report (has_unread d.diagnostics) looked d revision))
 
 -- ---- what a reply answers
 
@@ -149,23 +206,25 @@ pub record ListView : Type 0 where
   pub revision : ℕ
   pub text : List ℕ
 
--- `list_of reply` is the list of the diagnostics that `reply` answers, at the revision of `reply`.
-abbrev pub list_of : {M : Type 0} → ReplyView ProtoKey ProtoValue M → Option ListView
-list_of reply = option_map (λ d. record { revision = reply.revision; text = shown_list d }) (answered_diagnostics reply)
+-- `list_of looked reply` is the list of the diagnostics that `reply` answers, at the revision of
+-- `reply`. Imports were looked for as `looked` says.
+abbrev pub list_of : {M : Type 0} → List ℕ → ReplyView ProtoKey ProtoValue M → Option ListView
+list_of looked reply = option_map (λ d. record { revision = reply.revision; text = shown_list looked d }) (answered_diagnostics reply)
 
--- `shown_or_text uri reply answered place` is the text of `reply`, where `answered` is the diagnostics
--- and `place` the location that it answers. Diagnostics are as they are shown. A location is in the
--- file of `uri`. Any other text has no URI: it is the same for each root (the law
+-- `shown_or_text uri looked reply answered place` is the text of `reply`, where `answered` is the
+-- diagnostics and `place` the location that it answers. Diagnostics are as they are shown. A location
+-- is in the file of `uri`. Any other text has no URI: it is the same for each root (the law
 -- `located_as_it_is`), so it is that of the empty root.
-abbrev pub shown_or_text : {M : Type 0} → List ℕ → ReplyView ProtoKey ProtoValue M → Option Diagnosed → Option Location → List ℕ
-shown_or_text uri reply (Some d) place = shown_text (label_model reply.request.label) (has_unread d.diagnostics) d reply.revision
-shown_or_text uri reply None (Some l) = located_text (label_model reply.request.label) uri l
-shown_or_text uri reply None None = reply_text [] reply
+abbrev pub shown_or_text : {M : Type 0} → List ℕ → List ℕ → ReplyView ProtoKey ProtoValue M → Option Diagnosed → Option Location → List ℕ
+shown_or_text uri looked reply (Some d) place = shown_text (label_model reply.request.label) looked d reply.revision
+shown_or_text uri looked reply None (Some l) = located_text (label_model reply.request.label) uri l
+shown_or_text uri looked reply None None = reply_text [] reply
 
--- `editor_reply_text uri reply` is the text of `reply` for an editor, where `uri` is the URI of the
--- file of the definition that it answers, as the editor is to see it.
-abbrev pub editor_reply_text : {M : Type 0} → List ℕ → ReplyView ProtoKey ProtoValue M → List ℕ
-editor_reply_text uri reply = shown_or_text uri reply (answered_diagnostics reply) (answered_location reply)
+-- `editor_reply_text uri looked reply` is the text of `reply` for an editor, where `uri` is the URI of
+-- the file of the definition that it answers, as the editor is to see it. Imports were looked for as
+-- `looked` says.
+abbrev pub editor_reply_text : {M : Type 0} → List ℕ → List ℕ → ReplyView ProtoKey ProtoValue M → List ℕ
+editor_reply_text uri looked reply = shown_or_text uri looked reply (answered_diagnostics reply) (answered_location reply)
 
 -- ---- lists that are sent
 

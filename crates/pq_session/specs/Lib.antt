@@ -1,5 +1,6 @@
 pub mod Counts
 pub mod Uri
+pub mod Plain
 pub mod Session
 pub mod Labels
 pub mod Items

@@ -104,6 +104,27 @@ initialized_data =
 unfoldable pub initialized_text : LabelModel → List ℕ
 initialized_text label = compact_text (reply_data (label_data label) initialized_data)
 
+-- `editor_initialized_data` is the capabilities of the server for an editor. Beside those of other
+-- clients it has diagnostics of all files, links of documents, notifications of saved documents, and
+-- folders that change (LSP 3.17, "DiagnosticOptions", "DocumentLinkOptions",
+-- "TextDocumentSyncOptions", "WorkspaceFoldersServerCapabilities").
+abbrev pub editor_initialized_data : Data
+editor_initialized_data =
+    object (member (codes "capabilities") (object
+    (member (codes "definitionProvider") (boolean true)
+    (member (codes "diagnosticProvider") (object (member (codes "interFileDependencies") (boolean true) (member (codes "workspaceDiagnostics") (boolean true) no_members)))
+    (member (codes "documentLinkProvider") (object (member (codes "resolveProvider") (boolean false) no_members))
+    (member (codes "documentSymbolProvider") (boolean true)
+    (member (codes "positionEncoding") (string (codes "utf-16"))
+    (member (codes "textDocumentSync") (object (member (codes "change") (number (unsigned 2)) (member (codes "openClose") (boolean true) (member (codes "save") (boolean true) no_members))))
+    (member (codes "workspace") (object (member (codes "workspaceFolders") (object (member (codes "changeNotifications") (boolean true) (member (codes "supported") (boolean true) no_members))) no_members))
+    no_members))))))))
+    (member (codes "serverInfo") (object (member (codes "name") (string (codes "pq_server")) no_members)) no_members))
+
+-- `editor_initialized_text label` is the text of the response to `initialize` for an editor.
+unfoldable pub editor_initialized_text : LabelModel → List ℕ
+editor_initialized_text label = compact_text (reply_data (label_data label) editor_initialized_data)
+
 -- `null_text label` is the text of the response of the result `null`.
 unfoldable pub null_text : LabelModel → List ℕ
 null_text label = compact_text (reply_data (label_data label) null)

@@ -1,9 +1,10 @@
 -- The file that a URI names below the root of a session, and the URI that is printed of a file (RFC
--- 3986, sections 2.1 and 2.3; RFC 8089, section 2; LSP 3.17, "URI").
-use Rattle.std.specs.Prelude.{ℕ, Bool, not, ◌==◌, ◌||◌, List, [], ◌∷◌, ◌++◌, length, drop, reverse, codes, if◌then◌else◌, Option, Some, None, option_and_then, option_map, unwrap_or, is_some, nat_eq}
-use Rattle.std.specs.Char.{is_ascii_alphanumeric}
+-- 3986, sections 2.1 and 2.3; RFC 8089, section 2; LSP 3.17, "URI"). Other texts write the same URI, and
+-- `plain_uri` is the one form of them.
+use Rattle.std.specs.Prelude.{ℕ, Bool, not, ◌==◌, ◌||◌, List, [], ◌∷◌, ◌++◌, length, drop, map, reverse, codes, if◌then◌else◌, Option, Some, None, option_and_then, option_map, unwrap_or, is_some, nat_eq}
+use Rattle.std.specs.Char.{is_ascii_alphanumeric, to_ascii_lowercase}
 use Rattle.std.specs.List.{starts_with, flat_map}
-use Rattle.std.specs.Str.{is_utf8, byte}
+use Rattle.std.specs.Str.{is_utf8, byte, bytes_eq}
 use Rattle.percent_encoding.specs.Percent.{percent_decode, percent_encode_byte}
 
 -- `slash` is the byte between the parts of a path.
@@ -43,6 +44,51 @@ without_slashes (b ∷ rest) = if b == slash then without_slashes rest else b �
 -- `without_last_slashes path` is `path` up to its last byte that is not `/`.
 abbrev pub without_last_slashes : List ℕ → List ℕ
 without_last_slashes path = reverse (without_slashes (reverse path))
+
+-- ---- one form of each URI
+
+-- `colon` is the byte after the scheme of a URI.
+abbrev pub colon : ℕ
+colon = 58
+
+-- `cut_at b text` is `text` before its first byte `b`, and after it, if it has that byte.
+abbrev pub cut_at : ℕ → List ℕ → Option (List ℕ × List ℕ)
+cut_at b [] = None
+cut_at b (x ∷ rest) = if x == b then Some ([], rest) else option_map (λ parts. (x ∷ parts.0, parts.1)) (cut_at b rest)
+
+-- `scheme_of uri` is the scheme of `uri`: the text before its first `:`, and empty without one (RFC 3986,
+-- section 3.1).
+abbrev pub scheme_of : List ℕ → List ℕ
+scheme_of uri = unwrap_or (option_map (λ parts. parts.0) (cut_at colon uri)) []
+
+-- `is_same_word text word` is whether `text` is `word` but for the case of ASCII letters.
+abbrev pub is_same_word : List ℕ → List ℕ → Bool
+is_same_word text word = bytes_eq (map to_ascii_lowercase text) (map to_ascii_lowercase word)
+
+-- `is_local host` is whether `host` names this machine: it is empty, or `localhost`.
+abbrev pub is_local : List ℕ → Bool
+is_local host = bytes_eq host [] || is_same_word host (codes "localhost")
+
+-- `rest_after_host text` is the path after its first slash, where `text` is a host of this machine and
+-- a path.
+abbrev pub rest_after_host : List ℕ → Option (List ℕ)
+rest_after_host text = option_and_then (λ parts. if is_local parts.0 then Some parts.1 else None) (cut_at slash text)
+
+-- `local_rest text` is the path after its first slash, where `text` is what follows the scheme: a host
+-- after `//` and the path, or the path alone.
+abbrev pub local_rest : List ℕ → Option (List ℕ)
+local_rest text = elim (strip_prefix (codes "//") text) [ None ↦ strip_prefix (codes "/") text | Some after ↦ rest_after_host after ]
+
+-- `plain_rest uri` is the path of `uri` after its first slash, if `uri` has the scheme `file`, in letters
+-- of any case, and names a file of this machine.
+abbrev pub plain_rest : List ℕ → Option (List ℕ)
+plain_rest uri = option_and_then (λ parts. if is_same_word parts.0 (codes "file") then local_rest parts.1 else None) (cut_at colon uri)
+
+-- `plain_uri uri` is the form of `uri` that is read: `file://` and its path, if `uri` names a file of
+-- this machine (RFC 8089, sections 2 and 3, appendix B). Any other text is itself. The law
+-- `plain_uris_stay` says that the form of a form is itself.
+unfoldable pub plain_uri : List ℕ → List ℕ
+plain_uri uri = elim (plain_rest uri) [ None ↦ uri | Some rest ↦ codes "file:///" ++ rest ]
 
 -- ---- the root
 

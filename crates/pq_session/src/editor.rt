@@ -2,6 +2,7 @@
 //! session leaves to whoever holds the documents.
 //!
 //! `lists` prints the list of the diagnostics of a reply, and `last_sent` says whether it is news.
+//! `looked` names the folders in which an import was looked for.
 //! `published` has the messages that the server sends of itself. `shown` prints replies as an editor
 //! is shown them. `edits` makes texts, changes and requests, and `cuts` makes texts of changes whose
 //! ranges end past the text. `events` says what a message tells beside what it asks for.
@@ -11,5 +12,6 @@ pub(crate) mod edits;
 pub(crate) mod events;
 pub(crate) mod last_sent;
 pub(crate) mod lists;
+pub(crate) mod looked;
 pub(crate) mod published;
 pub(crate) mod shown;

@@ -6,12 +6,14 @@
 //! the response that would be printed with its data (`symbols_spliced`, `descriptor_spliced`).
 //! Reading the URI that was printed of a file gives its name back (`uris_come_back`).
 //!
-//! A diagnostic that an editor is shown is as it is but for its severity (`shown_but_severity`), and
-//! where each import is read, all are shown with theirs (`list_as_it_is`, `reply_as_it_is`). Any
-//! other reply is that of a session with a root, where the URI of a definition is that below the root
-//! (`located_as_it_is`). Changes that fit a text are not cut (`fitting_uncut`). A list that was printed before gives the notification that would be printed
-//! with its data (`published_spliced`).
-ghost use Rattle.std.specs.Prelude.{◌≡◌, ◌↔◌, Bool, true, false, List, ℕ, ℤ, map, Option, Some, None, IsUtf8};
+//! A diagnostic that an editor is shown is as it is but for its severity and its message
+//! (`shown_but_severity`), and the message is its own unless an import is not found
+//! (`messages_as_they_are`). Where each import is read and found, and no part of the file is unread, all
+//! are shown as they are (`list_as_it_is`, `reply_as_it_is`). Any other reply is that of a session with
+//! a root, where the URI of a definition is that below the root (`located_as_it_is`). Changes that fit a
+//! text are not cut (`fitting_uncut`). A list that was printed before gives the notification that would
+//! be printed with its data (`published_spliced`). The plain form of a URI is plain (`plain_uris_stay`).
+ghost use Rattle.std.specs.Prelude.{◌≡◌, ◌↔◌, Bool, true, false, List, [], ◌++◌, ℕ, ℤ, map, Option, Some, None, IsUtf8};
 ghost use Rattle.serde_json.specs.Data.{Data};
 ghost use Rattle.serde_json.specs.Written.{compact_text};
 ghost use Rattle.pq_frame.specs.Labels.{LabelModel, label_data};
@@ -26,7 +28,7 @@ ghost use Rattle.pq_proto.specs.declared.key.ProtoKey.{ProtoKey};
 ghost use Rattle.pq_proto.specs.declared.value.Location.{Location};
 ghost use Rattle.pq_proto.specs.declared.value.ProtoValue.{ProtoValue};
 ghost use Rattle.pq_session.specs.Cuts.{after_cuts};
-ghost use Rattle.pq_session.specs.Editor.{has_unread, shown_severity, item_data, shown_data, shown_list, answered_diagnostics, answered_location, editor_reply_text, published_text, published_data};
+ghost use Rattle.pq_session.specs.Editor.{has_unread, has_unsaid, has_missing, is_missing, shown_severity, shown_message, item_data, shown_data, shown_list, answered_diagnostics, answered_location, editor_reply_text, published_text, published_data};
 ghost use Rattle.pq_session.specs.Replies.{reply_text};
 ghost use Rattle.pq_session.specs.Reply.{diagnostic_data, reply_data, symbols_text, descriptor_data, descriptor_text};
 ghost use Rattle.pq_frame.specs.Frames.{Frames, State};
@@ -34,7 +36,7 @@ ghost use Rattle.pq_session.specs.Responses.{ScriptState};
 ghost use Rattle.std.specs.Io.{StartsWith};
 ghost use Rattle.pq_session.specs.Output.{Output, Outputs};
 ghost use Rattle.pq_session.specs.Script.{StopsWithin};
-ghost use Rattle.pq_session.specs.Uri.{root_of, file_of, uri_of, is_file_name};
+ghost use Rattle.pq_session.specs.Uri.{root_of, file_of, uri_of, is_file_name, path_of, plain_uri};
 
 /// Every list of bodies has an output, in every state of a script.
 pub fn each_output()
@@ -85,29 +87,54 @@ pub fn uris_come_back()
 {}
 
 /// A diagnostic that an editor is shown is the diagnostic of a report, but for the number of its
-/// severity.
+/// severity and for its message.
 pub fn shown_but_severity()
     // `plain`, `shown`: A diagnostic that is shown is that of a report but for the number of its
-    // severity.
+    // severity and for its message.
     ensures plain { (file : ParsedFile) (f : Diagnostic) →
-        diagnostic_data file f ≡ item_data (severity_number (severity f.code)) file f }
-    ensures shown { (unread : Bool) (file : ParsedFile) (f : Diagnostic) →
-        shown_data unread file f ≡ item_data (shown_severity unread f.code) file f }
+        diagnostic_data file f ≡ item_data (severity_number (severity f.code)) f.text file f }
+    ensures shown { (unread : Bool) (looked : List ℕ) (file : ParsedFile) (f : Diagnostic) →
+        shown_data unread looked file f
+        ≡ item_data (shown_severity unread f.code) (shown_message looked f) file f }
 {}
 
-/// Where each import of a file is read, the list of its diagnostics has them as they are.
+/// A diagnostic that an editor is shown has its own message, unless it is an import that is not found.
+/// Then the message begins with its own.
+pub fn messages_as_they_are()
+    // `others`, `missing`: The message that is shown is that of the diagnostic, unless an import is not
+    // found; then the text that says where it was looked for follows it.
+    ensures others { (looked : List ℕ) (f : Diagnostic) → is_missing f.code ≡ false →
+        shown_message looked f ≡ f.text }
+    ensures missing { (looked : List ℕ) (f : Diagnostic) → is_missing f.code ≡ true →
+        shown_message looked f ≡ f.text ++ looked }
+{}
+
+/// Where each import of a file is read, and no part of it is unread, the list of its diagnostics has
+/// them as they are, if each import is found or nothing is said of the folders.
 pub fn list_as_it_is()
-    // Where each import is read, the list has each diagnostic as it is.
-    ensures { (d : Diagnosed) → has_unread d.diagnostics ≡ false →
-        shown_list d ≡ compact_text (list_data (map (diagnostic_data d.file) d.diagnostics)) }
+    // `found`, `untold`: Where each import is read and no part is unread, the list has each diagnostic
+    // as it is, if each import is found or the text about the folders is empty.
+    ensures found { (looked : List ℕ) (d : Diagnosed) → has_unread d.diagnostics ≡ false →
+        has_unsaid d.diagnostics ≡ false → has_missing d.diagnostics ≡ false →
+        shown_list looked d ≡ compact_text (list_data (map (diagnostic_data d.file) d.diagnostics)) }
+    ensures untold { (d : Diagnosed) → has_unread d.diagnostics ≡ false →
+        has_unsaid d.diagnostics ≡ false →
+        shown_list [] d ≡ compact_text (list_data (map (diagnostic_data d.file) d.diagnostics)) }
 {}
 
-/// Where each import of a file is read, an editor gets the reply that any other client gets.
+/// Where each import of a file is read, and no part of it is unread, an editor gets the reply that any
+/// other client gets, if each import is found or nothing is said of the folders.
 pub fn reply_as_it_is<M>()
-    // Where each import is read, the reply has each diagnostic as it is.
-    ensures { (uri root : List ℕ) (reply : ReplyView ProtoKey ProtoValue M) (d : Diagnosed) →
+    // `found`, `untold`: Where each import is read and no part is unread, the reply has each diagnostic
+    // as it is, if each import is found or the text about the folders is empty.
+    ensures found { (uri looked root : List ℕ) (reply : ReplyView ProtoKey ProtoValue M) (d : Diagnosed) →
         answered_diagnostics reply ≡ Some d → has_unread d.diagnostics ≡ false →
-        editor_reply_text uri reply ≡ reply_text root reply }
+        has_unsaid d.diagnostics ≡ false → has_missing d.diagnostics ≡ false →
+        editor_reply_text uri looked reply ≡ reply_text root reply }
+    ensures untold { (uri root : List ℕ) (reply : ReplyView ProtoKey ProtoValue M) (d : Diagnosed) →
+        answered_diagnostics reply ≡ Some d → has_unread d.diagnostics ≡ false →
+        has_unsaid d.diagnostics ≡ false →
+        editor_reply_text uri [] reply ≡ reply_text root reply }
 {}
 
 /// An editor that is given the URI below a root gets the definition that any other client with that
@@ -117,12 +144,12 @@ pub fn located_as_it_is<M>()
     // `located`, `other`: Where the URI is that below a root, the reply of a definition is that of a
     // session with this root; a reply of no diagnostics and no location has the same text for each
     // URI and each root.
-    ensures located { (root : List ℕ) (reply : ReplyView ProtoKey ProtoValue M) (l : Location) →
+    ensures located { (looked root : List ℕ) (reply : ReplyView ProtoKey ProtoValue M) (l : Location) →
         answered_location reply ≡ Some l →
-        editor_reply_text (uri_of root l.file) reply ≡ reply_text root reply }
-    ensures other { (uri root : List ℕ) (reply : ReplyView ProtoKey ProtoValue M) →
+        editor_reply_text (uri_of root l.file) looked reply ≡ reply_text root reply }
+    ensures other { (uri looked root : List ℕ) (reply : ReplyView ProtoKey ProtoValue M) →
         answered_diagnostics reply ≡ None → answered_location reply ≡ None →
-        editor_reply_text uri reply ≡ reply_text root reply }
+        editor_reply_text uri looked reply ≡ reply_text root reply }
 {}
 
 /// Changes that all fit a text leave the same, whether their ranges are cut or not.
@@ -139,4 +166,12 @@ pub fn published_spliced()
     // with that data.
     ensures { (uri : List ℕ) (version : Option ℤ) (d : Data) →
         published_text uri version (compact_text d) ≡ compact_text (published_data uri version d) }
+{}
+
+/// The plain form of a URI is plain, and a URI that names a path is in its plain form.
+pub fn plain_uris_stay()
+    // `twice`, `named`: The plain form of a plain form is itself, and a URI that names a path is its
+    // plain form.
+    ensures twice { (uri : List ℕ) → plain_uri (plain_uri uri) ≡ plain_uri uri }
+    ensures named { (uri path : List ℕ) → path_of uri ≡ Some path → plain_uri uri ≡ uri }
 {}

@@ -10,8 +10,9 @@
 //! `specs/Script` and `specs/Output` say which bytes are written for which input, `specs/Session`
 //! with `specs/Items` what a message means, `specs/Uri` which file a URI names, `specs/Responses`
 //! what the response to a message may be, and `specs/Replies` with `specs/Reply` its text.
-//! `specs/Editor` says what an editor is shown, and `specs/Cuts` which text its changes leave. What
-//! the files say is `Compiles` of `pq_proto`. `laws` has the theorems about all of them.
+//! `specs/Editor` says what an editor is shown, `specs/Plain` in which form its URIs are read, and
+//! `specs/Cuts` which text its changes leave. What the files say is `Compiles` of `pq_proto`. `laws`
+//! has the theorems about all of them.
 #![tactic(auto)]
 
 mod bodies;
@@ -27,20 +28,24 @@ mod state;
 pub use counted::Counted;
 pub use editor::cuts::{CutFault, text_after_cuts};
 pub use editor::edits::{asked_file, change_to, diagnostics_of, renamed, text_after};
-pub use editor::events::{Event, Greeting, event_of, without_root};
+pub use editor::events::{Event, Greeting, Previous, event_of, without_root};
 pub use editor::last_sent::LastSent;
 pub use editor::lists::{DiagnosticList, diagnostic_list};
+pub use editor::looked::looked_in;
 pub use editor::published::{WATCH_FILES, empty_list, published_text};
 pub use editor::shown::{definition_file, editor_text};
 pub use fault::ScriptFault;
 pub use laws::{
     descriptor_spliced, each_output, fitting_uncut, list_as_it_is, located_as_it_is,
-    published_spliced, reply_as_it_is, shown_but_severity, stops_at_a_front, symbols_spliced,
-    uris_come_back,
+    messages_as_they_are, plain_uris_stay, published_spliced, reply_as_it_is, shown_but_severity,
+    stops_at_a_front, symbols_spliced, uris_come_back,
 };
 pub use protocol::answers::reply_text;
-pub use protocol::replies::out_of_memory_text;
+pub use protocol::plain::with_plain_uri;
+pub use protocol::replies::{editor_initialized_text, out_of_memory_text};
+pub use protocol::results::result_text;
 pub use protocol::root::Root;
+pub use protocol::uris::{plain_uri, scheme_of};
 pub use run::{MAX_READS, at_end, script, script_over};
 pub use send::{write_all, write_frame};
 pub use state::items::Item;

@@ -5,7 +5,7 @@ ghost use Rattle.std.specs.Prelude.{◌≡◌, option_map, string_bytes, IfOk};
 ghost use Rattle.pq_session.specs.Editor.{shown_list as list_shown, list_of, answered_diagnostics as diagnostics_answered, outcome_value};
 
 use crate::protocol::reports::print_list;
-use crate::protocol::severities::has_unread;
+use crate::protocol::severities::{Reader, has_unread};
 use pq_checks::Diagnosed;
 use pq_core::{Outcome, Reply};
 use pq_proto::{Printer, ProtoKey, ProtoValue};
@@ -72,12 +72,18 @@ pub(crate) fn answered_diagnostics<M>(reply: &Reply<ProtoKey, ProtoValue, M>) ->
 }
 
 /// The JSON array of the diagnostics `diagnosed`.
-fn shown_list(alloc: Global, diagnosed: &Diagnosed) -> Result<String, AllocError>
-    ensures { IfOk result (λ text. string_bytes text ≡ list_shown diagnosed.now) }
+fn shown_list(alloc: Global, looked: &str, diagnosed: &Diagnosed) -> Result<String, AllocError>
+    ensures { IfOk result (λ text. string_bytes text ≡ list_shown looked.now diagnosed.now) }
 {
     let unread = has_unread(diagnosed.diagnostics.as_slice());
     let mut out = Printer::new(alloc);
-    print_list(&mut out, unread, diagnosed)?;
+    print_list(
+        alloc,
+        &mut out,
+        Reader::Editor { unread },
+        looked,
+        diagnosed,
+    )?;
     Ok(out.into_string())
 }
 
@@ -85,24 +91,32 @@ fn shown_list(alloc: Global, diagnosed: &Diagnosed) -> Result<String, AllocError
 /// reply that answers no diagnostics: a cancelled, starved, withdrawn or plain one, and an answer of
 /// another kind.
 ///
+/// The parts of the file that are not read (P020, P021, P022) are left out, since they are correct.
 /// An import of a file with a syntax error (P104) is left out, since that file shows the error itself.
 /// Where there is one, the names of types that resolve to nothing (P150) have the severity of
 /// information (LSP 3.17, "DiagnosticSeverity"). Each other error has the severity of its code.
 ///
+/// The message of an import that is not found (P102) is followed by `looked`, as [`looked_in`] makes
+/// it. Each other error has its own message.
+///
 /// Only `Memory` is an error, after an allocation failure.
+///
+/// [`looked_in`]: crate::looked_in
 pub fn diagnostic_list<M>(
     alloc: Global,
+    looked: &str,
     reply: &Reply<ProtoKey, ProtoValue, M>,
 ) -> Result<Option<DiagnosticList>, AllocError>
     // The list of the diagnostics that a reply answers, at the revision of the reply; `None` for a
-    // reply that answers none. Where an import has a syntax error, P104 is not in the list, and P150 is
-    // information.
-    ensures { IfOk result (λ list. list ≡ list_of reply.now) }
+    // reply that answers none. P020, P021 and P022 are not in the list. Where an import has a syntax
+    // error, P104 is not in the list, and P150 is information. The text `looked` follows the message of
+    // P102.
+    ensures { IfOk result (λ list. list ≡ list_of looked.now reply.now) }
 {
     match answered_diagnostics(reply) {
         Some(diagnosed) => Ok(Some(DiagnosticList {
             revision: reply.revision().number(),
-            text: shown_list(alloc, diagnosed)?,
+            text: shown_list(alloc, looked, diagnosed)?,
         })),
         None => Ok(None),
     }

@@ -6,7 +6,7 @@ ghost use Rattle.pq_session.specs.Replies.{reply_text as text_of_reply};
 use crate::editor::lists::{answered_diagnostics, outcome_value};
 use crate::protocol::answers::{diagnostics_text, located_text, reply_text};
 use crate::protocol::root::Root;
-use crate::protocol::severities::has_unread;
+use crate::protocol::severities::{Reader, has_unread};
 use pq_core::Reply;
 use pq_proto::{Location, ProtoKey, ProtoValue};
 use std::alloc::{AllocError, Global};
@@ -32,27 +32,30 @@ fn text_without_uri<M>(
     reply_text(alloc, &root, reply)
 }
 
-/// The text of the reply to a request, as an editor is shown it. A report of diagnostics has the
-/// severities of [`diagnostic_list`](crate::diagnostic_list). A location has the URI `uri`: that of
-/// the file of the definition, as the editor is to see it. Any other reply has the text of
-/// [`reply_text`], which has no URI, and `uri` is not read.
+/// The text of the reply to a request, as an editor is shown it. A report of diagnostics has those of
+/// [`diagnostic_list`](crate::diagnostic_list), with its severities and messages. A location has the
+/// URI `uri`: that of the file of the definition, as the editor is to see it. Any other reply has the
+/// text of [`reply_text`], which has no URI, and neither `uri` nor `looked` is read.
 ///
 /// Only `Memory` is an error, after an allocation failure.
 pub fn editor_text<M>(
     alloc: Global,
     uri: &str,
+    looked: &str,
     reply: &Reply<ProtoKey, ProtoValue, M>,
 ) -> Result<String, AllocError>
     // The text of a reply that answers diagnostics has them as `diagnostic_list` does; that of a
     // definition has the URI that is given and the range of the location; any other reply has its
     // text.
-    ensures { IfOk result (λ s. string_bytes s ≡ editor_reply_text uri.now reply.now) }
+    ensures { IfOk result (λ s. string_bytes s ≡ editor_reply_text uri.now looked.now reply.now) }
 {
     match (answered_diagnostics(reply), answered_location(reply)) {
         (Some(diagnosed), _) => {
             let unread = has_unread(diagnosed.diagnostics.as_slice());
             let label = &reply.request().label;
-            diagnostics_text(alloc, label, unread, diagnosed, reply.revision().number())
+            let revision = reply.revision().number();
+            let reader = Reader::Editor { unread };
+            diagnostics_text(alloc, label, reader, looked, diagnosed, revision)
         }
         (None, Some(location)) => located_text(alloc, uri, &reply.request().label, location),
         (None, None) => text_without_uri(alloc, reply),

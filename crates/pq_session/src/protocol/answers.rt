@@ -1,8 +1,8 @@
 //! The texts of replies, by the outcome of the request and by the kind of its answer.
 ghost use Rattle.std.specs.Prelude.{◌≡◌, IfOk, string_bytes};
 ghost use Rattle.pq_session.specs.Labels.{label_model};
-ghost use Rattle.pq_session.specs.Editor.{shown_text};
 ghost use Rattle.pq_session.specs.Reply.{located_text as text_of_located, location_text as text_of_location};
+ghost use Rattle.pq_session.specs.aux.Shown.{printed_text};
 ghost use Rattle.pq_session.specs.Replies.{value_text as text_of_value, answer_text as text_of_answer, reply_text as text_of_reply};
 
 use crate::protocol::locations::print_location;
@@ -11,6 +11,7 @@ use crate::protocol::replies::{cancelled_text, null_text, refusal_text};
 use crate::protocol::reports::print_report;
 use crate::protocol::results::{descriptor_text, print_start, result_text};
 use crate::protocol::root::Root;
+use crate::protocol::severities::Reader;
 use pq_checks::Diagnosed;
 use pq_core::{Label, Outcome, Reply, Want};
 use pq_proto::{Location, Printer, ProtoKey, ProtoValue};
@@ -20,23 +21,24 @@ use std::alloc::{AllocError, Global};
 /// The bytes for which there is room at first, for a response and for each of its diagnostics.
 const EACH: usize = 256;
 
-/// The response that reports the diagnostics `diagnosed` of a file at a revision of the sources, with
-/// the severities of an editor where `unread` is true.
+/// The response that reports to `reader` the diagnostics `diagnosed` of a file at a revision of the
+/// sources.
 pub(crate) fn diagnostics_text(
     alloc: Global,
     label: &Label,
-    unread: bool,
+    reader: Reader,
+    looked: &str,
     diagnosed: &Diagnosed,
     revision: u64,
 ) -> Result<String, AllocError>
     ensures { IfOk result (λ s. string_bytes s
-        ≡ shown_text (label_model label.now) unread diagnosed.now revision) }
+        ≡ printed_text (label_model label.now) reader looked.now diagnosed.now revision) }
 {
     let count = diagnosed.diagnostics.as_slice().len();
     let room = count.saturating_mul(EACH).saturating_add(EACH);
     let mut out = Printer::with_capacity(alloc, room)?;
     print_start(&mut out, label)?;
-    print_report(alloc, &mut out, unread, diagnosed, revision)?;
+    print_report(alloc, &mut out, reader, looked, diagnosed, revision)?;
     out.end_object()?;
     Ok(out.into_string())
 }
@@ -76,7 +78,7 @@ fn location_text(
 
 /// The response of `value`, which a key has at `revision`. A value that no request asks for gives
 /// null.
-#[tactic(auto, using(crate::proofs::EditorLemmas::plain_text))]
+#[tactic(auto, unfolding(crate::specs::aux::Shown::printed_text, crate::specs::Reply::diagnostics_text))]
 fn value_text(
     alloc: Global,
     root: &Root,
@@ -89,7 +91,7 @@ fn value_text(
 {
     match value {
         ProtoValue::Diagnostics(diagnosed) => {
-            diagnostics_text(alloc, label, false, diagnosed.get(), revision)
+            diagnostics_text(alloc, label, Reader::Any, "", diagnosed.get(), revision)
         }
         ProtoValue::Symbols(symbols) => result_text(alloc, label, symbols.as_str()),
         ProtoValue::Definition(Some(location)) => location_text(alloc, root, label, location),

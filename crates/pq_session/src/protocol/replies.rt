@@ -5,7 +5,7 @@ ghost use Rattle.serde_json.specs.Written.{has_float};
 ghost use Rattle.serde_json.specs.Data.{null};
 ghost use Rattle.pq_frame.specs.Labels.{label_data};
 ghost use Rattle.pq_session.specs.Labels.{label_model};
-ghost use Rattle.pq_session.specs.Reply.{error_code, error_message, error_data, cancelled_data, reply_data, initialized_data, refusal_text as text_of_refusal, out_of_memory_text as text_of_out_of_memory, cancelled_text as text_of_cancelled, initialized_text as text_of_initialized, null_text as text_of_null};
+ghost use Rattle.pq_session.specs.Reply.{error_code, error_message, error_data, cancelled_data, reply_data, initialized_data, editor_initialized_data, refusal_text as text_of_refusal, out_of_memory_text as text_of_out_of_memory, cancelled_text as text_of_cancelled, initialized_text as text_of_initialized, editor_initialized_text as text_of_editor_initialized, null_text as text_of_null};
 
 use crate::protocol::refusals::Refusal;
 use pq_core::Label;
@@ -64,6 +64,36 @@ fn initialized_value(alloc: Global) -> Result<Value, AllocError>
     })
 }
 
+/// The result of `initialize` for an editor: the capabilities of the server.
+fn editor_initialized_value(alloc: Global) -> Result<Value, AllocError>
+    ensures { IfOk result (λ v. view v ≡ editor_initialized_data) }
+{
+    json!(in alloc; {
+        "capabilities": {
+            "definitionProvider": true,
+            "diagnosticProvider": {
+                "interFileDependencies": true,
+                "workspaceDiagnostics": true
+            },
+            "documentLinkProvider": {"resolveProvider": false},
+            "documentSymbolProvider": true,
+            "positionEncoding": "utf-16",
+            "textDocumentSync": {
+                "change": 2u64,
+                "openClose": true,
+                "save": true
+            },
+            "workspace": {
+                "workspaceFolders": {
+                    "changeNotifications": true,
+                    "supported": true
+                }
+            }
+        },
+        "serverInfo": {"name": "pq_server"}
+    })
+}
+
 /// The response to a request that was started at one revision and stopped at another.
 fn cancelled_value(
     alloc: Global,
@@ -114,6 +144,19 @@ pub(crate) fn initialized_text(alloc: Global, label: &Label) -> Result<String, A
     ensures { IfOk result (λ s. string_bytes s ≡ text_of_initialized (label_model label.now)) }
 {
     reply_value(alloc, label, initialized_value(alloc)?)?.to_string(alloc)
+}
+
+/// The response to `initialize` for an editor (LSP 3.17, "InitializeResult"). Beside the capabilities
+/// of other clients it has diagnostics of all files, links of documents, notifications of saved
+/// documents, and folders that change.
+///
+/// Only `Memory` is an error, after an allocation failure.
+#[tactic(auto, using(crate::proofs::ReplyLemmas::editor_initialized_has_no_float), unfolding(crate::specs::Reply::editor_initialized_text))]
+pub fn editor_initialized_text(alloc: Global, label: &Label) -> Result<String, AllocError>
+    // The text of the response with the capabilities for an editor.
+    ensures { IfOk result (λ s. string_bytes s ≡ text_of_editor_initialized (label_model label.now)) }
+{
+    reply_value(alloc, label, editor_initialized_value(alloc)?)?.to_string(alloc)
 }
 
 /// The response of the result `null`, as to `shutdown`.

@@ -45,9 +45,13 @@ fn result_start(alloc: Global, label: &Label) -> Result<String, AllocError>
     Ok(out.into_string())
 }
 
-/// The response whose result is the JSON text `text`.
+/// The response whose result is the JSON text `text`, which is put in as it is, and not read.
+///
+/// Only `Memory` is an error, after an allocation failure.
 #[tactic(auto, unfolding(crate::specs::Reply::result_text))]
-pub(crate) fn result_text(alloc: Global, label: &Label, text: &str) -> Result<String, AllocError>
+pub fn result_text(alloc: Global, label: &Label, text: &str) -> Result<String, AllocError>
+    // The response into which a printed result is put. The law `symbols_spliced` says of which data it
+    // is the compact text.
     ensures { IfOk result (λ s. string_bytes s ≡ text_of_result (label_model label.now) text.now) }
 {
     let mut reply = result_start(alloc, label)?;

@@ -22,3 +22,16 @@ pub(crate) fn core_label(alloc: Global, label: pq_frame::Label) -> Result<Label,
         pq_frame::Label::Text(text) => Ok(Label::Text(Text::from_string(alloc, text)?)),
     }
 }
+
+/// The label of a request, as the core keeps it. The label of the message stays.
+pub(crate) fn copied_label(alloc: Global, label: &pq_frame::Label) -> Result<Label, AllocError>
+    ensures same { IfOk result (λ made. label_model made ≡ model_of_message label.now) }
+    ensures one_form { HasOneMessageForm label.now → IfOk result HasOneForm }
+{
+    match label {
+        pq_frame::Label::None => Ok(Label::None),
+        pq_frame::Label::Unsigned(n) => Ok(Label::Unsigned(*n)),
+        pq_frame::Label::Negative(n) => Ok(Label::Negative(*n)),
+        pq_frame::Label::Text(text) => Ok(Label::Text(Text::new(alloc, text.as_str())?)),
+    }
+}

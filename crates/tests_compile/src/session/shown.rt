@@ -1,6 +1,7 @@
 //! What an editor is shown: lists of diagnostics, replies, and notifications.
 //!
-//! Where an import is not read, P104 is not shown, and the severity of P150 is 3.
+//! Where an import is not read, P104 is not shown, and the severity of P150 is 3. P020, P021 and P022
+//! are not shown. The folders follow the message of P102.
 use crate::checks::{check_table, check_text, check_that};
 use crate::sets::inputs_of;
 use pq_core::{Body, ClientId, Number, Outcome, Reply, Request, Want};
@@ -10,7 +11,8 @@ use pq_proto::{Place, ProtoKey, ProtoValue, compile};
 use pq_rules::Shared;
 use pq_session::{
     CutFault, LastSent, ScriptFault, asked_file, change_to, definition_file, diagnostic_list,
-    diagnostics_of, editor_text, empty_list, published_text, renamed, text_after, text_after_cuts,
+    diagnostics_of, editor_text, empty_list, looked_in, published_text, renamed, text_after,
+    text_after_cuts,
 };
 use std::alloc::Global;
 use std::process::Abort;
@@ -50,10 +52,13 @@ fn reply_of(rt: &(impl Abort + AllocGlobal), inputs: &Inputs, name: &str) -> Bar
     answered(rt, inputs, request, &key)
 }
 
+/// The text that follows the message of P102.
+const LOOKED: &str = " (looked for in \"/p\")";
+
 /// Checks the list of the diagnostics of `name`.
 fn check_list(rt: &(impl Abort + AllocGlobal), inputs: &Inputs, name: &str, want: &str) {
     let reply = reply_of(rt, inputs, name);
-    let list = diagnostic_list(rt.alloc(), &reply).expect(rt, "memory");
+    let list = diagnostic_list(rt.alloc(), LOOKED, &reply).expect(rt, "memory");
     let list = list.expect(rt, "a list");
     check_text(rt, list.text(), want, name);
     check_that(rt, list.revision() == inputs.now().number(), name);
@@ -80,15 +85,63 @@ fn errors_after_an_unread_import_are_information(rt: HostRuntime) {
     check_list(&rt, &inputs, "c", empty_list());
 }
 
+/// What no editor is told: a value of a message, a value with a fraction, and a block of `extend`.
+/// Beside them an import is not found.
+const HALF_READ: &str =
+    r#"d: option (a) = { b: 1 }; option c = 0.5; extend D { } import "e"; message D {}"#;
+
+/// The list of `d`: the message of P102 names the folders.
+const OF_D: &str =
+    r#"[{"code":"P102","message":"import \"e\" is not found (looked for in \"/p\")","range":{"end":{"character":65,"line":1},"start":{"character":62,"line":1}},"severity":1,"source":"proto"}]"#;
+
+#[test]
+fn parts_that_are_not_read_are_not_told(rt: HostRuntime) {
+    let inputs = inputs_of(&rt, HALF_READ);
+    check_list(&rt, &inputs, "d", OF_D);
+}
+
+/// Writes the text of the folders of a row, with blanks between.
+fn show_looked(page: &mut Page, row: &str) {
+    let mut folders = Vec::new(page.alloc);
+    for path in row.split(' ') {
+        if path == "-" {
+            continue;
+        }
+        let pushed = match Text::new(page.alloc, path) {
+            Ok(folder) => folders.push(folder).is_ok(),
+            Err(_) => false,
+        };
+        if !pushed {
+            page.cut();
+        }
+    }
+    match looked_in(page.alloc, &folders) {
+        Ok(text) => page.add(text.as_str()),
+        Err(_) => page.cut(),
+    }
+}
+
+const FOLDERS: &str = r#"- => 
+/p =>  (looked for in /p)
+/p /usr/include =>  (looked for in /p, /usr/include)
+a b c d e f g h =>  (looked for in a, b, c, d, e, f, g, h)
+a b c d e f g h i =>  (looked for in a, b, c, d, e, f, g, h and 1 more folder)
+a b c d e f g h i j k =>  (looked for in a, b, c, d, e, f, g, h and 3 more folders)"#;
+
+#[test]
+fn folders_of_an_import_that_is_missing(rt: HostRuntime) {
+    check_table(&rt, 6, FOLDERS, show_looked);
+}
+
 /// The text of `reply` that an editor is shown, with the URI `file:///p/"b`.
 fn check_reply(rt: &(impl Abort + AllocGlobal), reply: &BareReply, want: &str) {
-    let found = editor_text(rt.alloc(), "file:///p/\"b", reply).expect(rt, "memory");
+    let found = editor_text(rt.alloc(), "file:///p/\"b", LOOKED, reply).expect(rt, "memory");
     check_text(rt, found.as_str(), want, want);
 }
 
 /// Checks that `reply` answers no diagnostics.
 fn check_no_list(rt: &(impl Abort + AllocGlobal), reply: &BareReply) {
-    let list = diagnostic_list(rt.alloc(), reply).expect(rt, "memory");
+    let list = diagnostic_list(rt.alloc(), "", reply).expect(rt, "memory");
     check_that(rt, list.is_none(), "a list");
 }
 
@@ -102,7 +155,14 @@ fn replies_for_an_editor(rt: HostRuntime) {
         r#"{"id":null,"jsonrpc":"2.0","result":{"items":[],"kind":"full","resultId":"2"}}"#,
     );
     check_that(&rt, definition_file(&reply).is_none(), "no definition");
+    let inputs = inputs_of(&rt, HALF_READ);
+    let reply = reply_of(&rt, &inputs, "d");
+    check_reply(&rt, &reply, REPLY_OF_D);
 }
+
+/// The reply for `d`: its items are those of the list.
+const REPLY_OF_D: &str =
+    r#"{"id":null,"jsonrpc":"2.0","result":{"items":[{"code":"P102","message":"import \"e\" is not found (looked for in \"/p\")","range":{"end":{"character":65,"line":1},"start":{"character":62,"line":1}},"severity":1,"source":"proto"}],"kind":"full","resultId":"1"}}"#;
 
 #[test]
 fn the_file_of_a_definition(rt: HostRuntime) {
@@ -134,7 +194,7 @@ fn is_sent(
     version: Option<i64>,
 ) -> bool {
     let reply = reply_of(rt, inputs, "a");
-    let list = diagnostic_list(rt.alloc(), &reply).expect(rt, "memory");
+    let list = diagnostic_list(rt.alloc(), "", &reply).expect(rt, "memory");
     last.replace(list.expect(rt, "a list"), version)
 }
 
