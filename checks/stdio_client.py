@@ -2,6 +2,7 @@
 import fcntl
 import json
 import os
+import re
 import subprocess
 import sys
 import termios
@@ -13,16 +14,23 @@ from server_process import LONGEST, Failed, Server, check, until, uri_of, write
 
 PULL = "textDocument/diagnostic"
 PUSH = "textDocument/publishDiagnostics"
+ALL = "workspace/diagnostic"
+REFRESH = "workspace/diagnostic/refresh"
+LOG, SHOW = "window/logMessage", "window/showMessage"
 CONTENT_MODIFIED = -32801
 REQUEST_CANCELLED = -32800
 # The word by which `script` and `listen` read the files that `stdio` reads.
 LOOSE = "--loose"
 # An import of a file with an error is not shown. The names that may be defined there have the other severity then.
 FAULTY_IMPORT, UNKNOWN_TYPE, INFORMATION = "P104", "P150", 3
+# What is not read of a file is not shown either.
+HIDDEN = {"P020", "P021", "P022", FAULTY_IMPORT}
+# What the message of a missing import has by `script`. By `stdio` the folders in which it was looked for follow.
+MISSING, NOT_FOUND = "P102", re.compile(r'.*" is not found', re.S)
 # How long it is quiet before no further message is expected, in seconds.
 QUIET = 0.4
-# A file that is written to see whether the server has looked at the disk.
-MARK = "mark.proto"
+# A file that is written to see whether the server has looked at the disk, and a document that imports it.
+MARK, LOOK = "mark.proto", "look.proto"
 # The bytes of a pipe that is as good as full.
 PIPE = 60000
 
@@ -32,8 +40,8 @@ class Editor(Server):
 
     def __init__(self, program, *words, params=(), capabilities=None, begins=True):
         super().__init__([program, "stdio", *words], subprocess.PIPE)
-        # Replies by their ids, lists by their URIs in the order in which they came, and requests of the server.
-        self.replies, self.pushed, self.requests, self.last_news = {}, [], [], time.monotonic()
+        # Replies by their ids; lists, requests of the server and its other notifications in the order in which they came.
+        self.replies, self.pushed, self.requests, self.notices, self.last_news = {}, [], [], [], time.monotonic()
         self.next, self.versions, self.looks = 0, {}, 0
         # While it is cleared, what the server writes is left in the pipe.
         self.reads = threading.Event()
@@ -75,8 +83,10 @@ class Editor(Server):
             self.replies[body["id"]] = {"error": {"code": 0, "message": "answered twice"}} if again else body
         elif "id" in body:
             self.requests.append(body)
+        elif body["method"] == PUSH:
+            self.pushed.append(body["params"])
         else:
-            self.pushed.append(body["params"] if body["method"] == PUSH else body)
+            self.notices.append(body)
 
     def be_read(self):
         """Waits until the server has done what was sent: it answers a request after that."""
@@ -96,13 +106,17 @@ class Editor(Server):
     def look(self, folder):
         """Waits until the server has looked at all of the disk since now, though it is told of nothing.
 
-        A file below the folder, which is that of a root, is written twice. When the second text is seen, the look that saw the
-        first one has ended, and another one began after that."""
+        A file below the folder, which is that of a root, is written twice. When the importer of the second text shows it, the look
+        that saw the first one has ended, and another one began after that."""
+        path = os.path.join(folder, LOOK)
         for _ in range(2):
             self.looks += 1
-            count = 1 + self.looks % 2
-            write(folder, {MARK: 'syntax = "proto3";\n' + "message M { int32 x = 0; }\n" * count})
-            until(lambda: codes(self.pull(os.path.join(folder, MARK))).count("P120"), count, "a look at the disk")
+            write(folder, {MARK: 'syntax = "proto3";\nmessage M%d {}\n' % (self.looks % 2)})
+            if self.looks == 1:
+                self.open(path, 'syntax = "proto3";\nimport "%s";\nmessage L { M0 a = 1; M1 b = 2; }\n' % MARK)
+            # The type that is not there is the first one after an odd number of looks.
+            wanted = [12 if self.looks % 2 else 22]
+            until(lambda: [it["range"]["start"]["character"] for it in self.pull(path)], wanted, "a look at the disk")
 
     def wait_until_full(self):
         """Waits until the server waits for room in the pipe of its output. `reads` has to be cleared."""
@@ -134,6 +148,10 @@ class Editor(Server):
     def reply(self, label):
         self.wait_for(lambda: label in self.replies, "the reply of request %s" % label)
         return self.replies[label]
+
+    def answer(self, request, result=None):
+        """Answers a request of the server."""
+        self.send(frame({"jsonrpc": "2.0", "id": request["id"], "result": result}))
 
     def ask(self, method, params):
         """The result of a request or its error, asked for again where an edit overtook it."""
@@ -169,11 +187,15 @@ class Editor(Server):
 
     # ---- what is right
 
-    def pull(self, path):
-        """The diagnostics of a file, asked for."""
-        found = self.ask(PULL, {"textDocument": {"uri": uri_of(path)}})
+    def pull(self, path, uri=None):
+        """The diagnostics of a file, asked for, without the folders in which imports were looked for."""
+        return plain(self.raw_pull(path, uri))
+
+    def raw_pull(self, path, uri=None):
+        """The diagnostics of a file as they are answered."""
+        found = self.ask(PULL, {"textDocument": {"uri": uri or uri_of(path)}})
         if "items" not in found:
-            raise Failed("the diagnostics of %s are %r" % (path, found))
+            raise Failed("the diagnostics of %s are %r" % (uri or path, found))
         return found["items"]
 
     def definition(self, path, line, character, uri=None):
@@ -183,10 +205,24 @@ class Editor(Server):
         return found and found.get("uri")
 
     def lists(self, path, uri=None):
-        """The lists that were pushed for a file, in their order."""
+        """The lists that were pushed for a file, in their order, without the folders in which imports were looked for."""
+        return [dict(it, diagnostics=plain(it["diagnostics"])) for it in self.raw_lists(path, uri)]
+
+    def raw_lists(self, path, uri=None):
+        """The lists that were pushed for a file, in their order, as they came."""
         uri = uri or uri_of(path)
         with self.news:
             return [it for it in self.pushed if it.get("uri") == uri]
+
+    def logged(self, method=LOG):
+        """The texts of the messages to the log, or of those to the user."""
+        with self.news:
+            return [it["params"]["message"] for it in self.notices if it["method"] == method]
+
+    def asked_by_server(self, method):
+        """The requests of the server with a method."""
+        with self.news:
+            return [it for it in self.requests if it["method"] == method]
 
     def shown(self, path, uri=None):
         """The list that an editor shows of a file that gets lists: the last one, or nothing."""
@@ -218,30 +254,42 @@ class Editor(Server):
                 pass
         return self.left()
 
-    def end(self, *wanted):
-        """Ends the session in order. Standard error has to have the lines `wanted`, each given by texts that it has."""
+    def leave(self):
+        """Ends the session in order. Returns the lines of standard error."""
         check(self.ask("shutdown", None), None, "the reply to shutdown")
         self.say("exit", None)
         status, lines = self.ended()
         check(status, 0, "the status, with standard error %r" % lines)
+        return lines
+
+    def end(self, *wanted):
+        """Ends the session in order. Standard error has to have the lines `wanted`, each given by texts that it has."""
+        lines = self.leave()
         is_right = len(lines) == len(wanted) and all(all(text in line for text in texts) for line, texts in zip(lines, wanted))
         if not is_right:
             raise Failed("the lines of standard error are %r, wanted %r" % (lines, wanted))
 
 
 def codes(items):
-    return [it["code"] for it in items]
+    """The codes of a list. A file that is not read has one diagnostic without a code."""
+    return [it.get("code", "none") for it in items]
 
 
 def severities(items):
     return [(it["code"], it["severity"]) for it in items]
 
 
+def plain(items):
+    """A list of diagnostics without the folders in which its imports were looked for."""
+    return [dict(it, message=NOT_FOUND.match(it["message"]).group()) if it.get("code") == MISSING else it for it in items]
+
+
 def softened(items):
-    """A list of diagnostics as `stdio` shows it."""
+    """A list of diagnostics of `script` as `stdio` shows it, without the folders in which imports were looked for."""
+    shown = [it for it in items if it["code"] not in HIDDEN]
     if FAULTY_IMPORT not in codes(items):
-        return items
-    return [dict(it, severity=INFORMATION) if it["code"] == UNKNOWN_TYPE else it for it in items if it["code"] != FAULTY_IMPORT]
+        return shown
+    return [dict(it, severity=INFORMATION) if it["code"] == UNKNOWN_TYPE else it for it in shown]
 
 
 def message(method, name, label=None, **more):

@@ -225,7 +225,8 @@ def grown_slowly(place):
             sink.flush()
             time.sleep(0.02)
     editor.expect(user, [], "the importer of the last type")
-    until(lambda: len(editor.pull(path)), 200, "how many errors the file has")
+    editor.open(path, text)
+    editor.wait_for(lambda: len(editor.shown(path)) == 200, "how many errors the file has")
     editor.end()
 
 
@@ -388,13 +389,14 @@ def files_that_come_and_go(place):
     """Files that are gone again when the server reads them leave no line, and are absent at the end."""
     os.makedirs(at(place, "x"))
     names = ["x/f%d.proto" % n for n in range(COMING)]
-    editor = begun(place)
+    editor, user = begun(place), at(place, "user.proto")
+    editor.open(user, HEAD + "".join('import "%s";\n' % name for name in names))
     program = subprocess.Popen([sys.executable, "-c", COMER, having(), *[at(place, name) for name in names]])
     SERVERS.append(program)
     while program.poll() is None:
         editor.tell((at(place, "x"), CHANGED), (at(place, names[0]), CHANGED))
         editor.be_read()
-    until(lambda: [codes(editor.pull(at(place, name))) for name in names], [[]] * len(names), "the files at the end")
+    until(lambda: codes(editor.pull(user)).count("P102"), len(names), "how many of the files are missing at the end")
     editor.look(place.folder)
     editor.end()
 

@@ -252,13 +252,14 @@ def words_that_are_refused(place):
 
 
 def roots_that_are_not_there(place):
-    """A root folder that is not there leaves one line, and the server goes on."""
+    """A root folder that is not there leaves at most one line, and the server goes on."""
     os.mkdir(at(place, "here"))
     editor = rooted(place, "nowhere", "here")
     path = at(place, "here/a.proto")
     editor.open(path, BAD)
     editor.expect_codes(path, "P120", "a document below the other root")
-    editor.end((at(place, "nowhere"),))
+    lines = editor.leave()
+    check(len(lines) <= 1 and all(at(place, "nowhere") in line for line in lines), True, "the lines %r" % lines)
 
 
 def ends_at_any_moment(place):

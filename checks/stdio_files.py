@@ -2,11 +2,14 @@
 import os
 
 from server_process import check, uri_of, write
-from stdio_client import Editor, codes, shown_by_rights
+from stdio_client import SHOW, Editor, codes, shown_by_rights
 from stdio_lists import BAD, GOOD, HEAD, at, begun
 
 MOST_BYTES = 1_048_576
-MOST_FILES = 4_096
+MOST_FILES = 65_536
+# What is said of a file that is not read.
+TOO_LONG, NOT_TEXT = "its text has more than 1048576 bytes", "its text is not UTF-8"
+TOO_MANY = "more than 65536 files are open or imported"
 CREATED, CHANGED, DELETED = 1, 2, 3
 # A file that each program can open, and none can read.
 UNREADABLE = "/proc/self/mem"
@@ -22,9 +25,17 @@ def having(kind="T"):
 
 
 def rooted(place, *roots, **more):
-    """An editor whose server has root folders by its words."""
-    words = [word for root in roots for word in ("--root", at(place, root))]
+    """An editor whose server has root folders by its words, and no others."""
+    words = [word for root in roots for word in ("--root", at(place, root))] + ["--only-roots"]
     return Editor(place.program, *place.workers, *words, params={"rootUri": uri_of(place.folder)}, **more)
+
+
+def unread(items):
+    """What a list says of a file that is not read: the message of its one item, which is at the start of the file."""
+    start = {"line": 0, "character": 0}
+    if [it["range"] for it in items] != [{"start": start, "end": start}] or "code" in items[0] or items[0]["severity"] != 1:
+        return "not one error at the start: %s" % items
+    return items[0]["message"].partition("the file is not checked: ")[2]
 
 
 def shows(editor, path, text, wanted, what):
@@ -137,18 +148,18 @@ def roots_in_order(place):
 
 
 def root_by_uri(place):
-    """Without `--root` names are below `rootUri`."""
+    """Without workspace folders names are below `rootUri`, which ends with a slash or not."""
     write(place.folder, {"r/x/c.proto": having(), "other/o.proto": having("O")})
     editor = Editor(place.program, *place.workers, params={"rootUri": uri_of(at(place, "r")) + "/"})
     user = at(place, "r/user.proto")
     shows(editor, user, using("x/c.proto"), "", "a name below the root")
-    shows(editor, user, using("c.proto"), "P102 P150", "a name from another folder")
+    shows(editor, user, using("r/x/c.proto"), "P102 P150", "a name from the folder above")
     shows(editor, user, using("o.proto", "O"), "P102 P150", "a file outside the root")
     editor.end()
 
 
 def roots_by_folders(place):
-    """Without `rootUri` the roots are the workspace folders, in their order."""
+    """The workspace folders are roots, in their order."""
     write(place.folder, {"one/c.proto": having("One"), "two/c.proto": having("Two"), "two/d.proto": having("D")})
     folders = [{"uri": uri_of(at(place, name)), "name": name} for name in ("one", "two")]
     editor = Editor(place.program, *place.workers, params={"rootUri": None, "workspaceFolders": folders})
@@ -229,7 +240,7 @@ def unreadable(place):
 
 
 def bytes_that_are_no_text(place):
-    """A file that is not UTF-8, and one that is too long, leave a line each, and the rest is there."""
+    """A file that is not UTF-8, and one that is too long, leave a line and a message to the user each, and the rest is there."""
     write(place.folder, {"good.proto": having(), "long.proto": " " * (MOST_BYTES + 1)})
     with open(at(place, "bytes.proto"), "wb") as sink:
         sink.write(b"\xff")
@@ -240,50 +251,55 @@ def bytes_that_are_no_text(place):
     lines = editor.lines()
     found = sorted(os.path.basename(line.split(": ")[1]) for line in lines)
     check(found, ["bytes.proto", "long.proto"], "the files of the lines %r" % lines)
+    check([[fault in text for text in editor.logged(SHOW)].count(True) for fault in (NOT_TEXT, TOO_LONG)], [1, 1],
+          "the messages to the user: %r" % editor.logged(SHOW))
     editor.end(*((line,) for line in lines))
 
 
 def text_too_long(place):
-    """A document that gets too long leaves one line and is shown with no list; shorter again, it is shown with its list."""
+    """A document that gets too long is shown with one error at its start; shorter again, it is shown with its list."""
     editor, path = begun(place), at(place, "a.proto")
     editor.open(path, BAD)
     editor.expect_codes(path, "P120", "before")
-    editor.change(path, BAD + " " * MOST_BYTES)
-    editor.expect(path, [], "too long")
-    editor.wait_for_lines(1)
-    editor.change(path, BAD)
-    editor.expect_codes(path, "P120", "shorter again")
-    editor.open(at(place, "b.proto"), BAD)
-    editor.expect_codes(at(place, "b.proto"), "P120", "another document")
-    editor.end(("a.proto",))
+    for _ in range(2):
+        editor.change(path, BAD + " " * MOST_BYTES)
+        editor.wait_for(lambda: codes(editor.shown(path)) == ["none"], "too long")
+        check([unread(editor.shown(path)), unread(editor.pull(path))], [TOO_LONG, TOO_LONG], "what is said of it")
+        editor.change(path, BAD)
+        editor.expect_codes(path, "P120", "shorter again")
+    other = at(place, "b.proto")
+    editor.open(other, BAD + " " * MOST_BYTES)
+    editor.wait_for(lambda: codes(editor.shown(other)) == ["none"], "another one that is too long")
+    check(len(editor.logged(SHOW)), 1, "how often the user is told: %r" % editor.logged(SHOW))
+    editor.leave()
 
 
 def opened_too_long(place):
-    """A document that is opened too long leaves one line, and is taken once ranged changes have made it shorter."""
+    """A document that is opened too long is taken once ranged changes have made it shorter."""
     editor, path = begun(place), at(place, "a.proto")
     editor.open(path, BAD + " " * MOST_BYTES)
-    editor.wait_for_lines(1)
-    editor.be_quiet()
-    check(editor.shown(path), [], "too long")
+    editor.wait_for(lambda: codes(editor.shown(path)) == ["none"], "too long")
     length = len(BAD.split("\n")[-1]) + MOST_BYTES
     gone = {"range": {"start": {"line": 2, "character": 0}, "end": {"line": 2, "character": length}}, "text": ""}
     editor.change(path, gone)
     editor.expect_codes(path, "P120", "shorter by a range")
-    editor.end(("a.proto",))
+    editor.leave()
 
 
 def files_too_many(place):
-    """Of more files than may be the rest is passed over with one line, and the server goes on."""
-    write(place.folder, {"many/%d.proto" % n: "" for n in range(MOST_FILES + 1)})
-    editor = begun(place)
-    editor.wait_for_lines(1)
-    found = [codes(editor.pull(at(place, "many/%d.proto" % n))) for n in range(0, MOST_FILES, 512)]
-    check(any(found), True, "some of the files are there: %r" % found)
-    path = at(place, "new.proto")
-    editor.open(path, BAD)
-    editor.be_quiet()
-    check(codes(editor.shown(path)) in ([], ["P120"]), True, "a further document is taken or passed over")
-    editor.end((str(MOST_FILES),), *(() for _ in editor.lines()[1:]))
+    """Where more files are imported than may be, a further document is shown with one error at its start, and the server goes on."""
+    editor, half = begun(place), MOST_FILES // 2 + 1
+    for number in range(2):
+        names = "".join('import "%x";\n' % n for n in range(number * half, (number + 1) * half))
+        editor.open(at(place, "user%d.proto" % number), HEAD + names)
+    last = at(place, "last.proto")
+    editor.open(last, BAD)
+    editor.wait_for(lambda: codes(editor.shown(last)) == ["none"], "a document too many")
+    check([unread(editor.shown(last)), unread(editor.pull(last))], [TOO_MANY, TOO_MANY], "what is said of it")
+    check([TOO_MANY in text for text in editor.logged(SHOW)], [True], "what the user is told: %r" % editor.logged(SHOW))
+    editor.change(at(place, "user0.proto"), BAD)
+    editor.expect_codes(at(place, "user0.proto"), "P120", "a document that was there before")
+    editor.leave()
 
 
 def changes_of_ranges(place):

@@ -7,7 +7,7 @@ import time
 from listen_client import Listener
 from messages import frame
 from server_process import LONGEST, Failed, check, uri_of, write
-from stdio_client import (CONTENT_MODIFIED, LOOSE, PULL, REQUEST_CANCELLED, Editor, check_versions, codes, scripted, severities,
+from stdio_client import (CONTENT_MODIFIED, LOOSE, PULL, PUSH, REQUEST_CANCELLED, Editor, check_versions, codes, scripted, severities,
                           shown_by_rights)
 
 HEAD = 'syntax = "proto3";\n'
@@ -238,7 +238,8 @@ class Ordered(Editor):
         super().__init__(*words, **more)
 
     def take(self, body):
-        self.order.append(body["id"] if "id" in body else None)
+        if "id" in body or body["method"] == PUSH:
+            self.order.append(body.get("id"))
         super().take(body)
 
     def begin_to_hold(self):

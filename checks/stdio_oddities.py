@@ -6,7 +6,7 @@ import time
 
 from server_process import LONGEST, SERVERS, check, uri_of, write
 from stdio_client import Editor, codes, shown_by_rights
-from stdio_files import CHANGED, CREATED, MOST_BYTES, UNREADABLE, having, using
+from stdio_files import CHANGED, CREATED, MOST_BYTES, UNREADABLE, having, rooted, using
 from stdio_lists import BAD, GOOD, HEAD, at, begun
 
 # The longest line of standard error, in bytes.
@@ -187,15 +187,17 @@ class Deaf(Editor):
 def unread_errors(place):
     """Where nobody reads standard error the session begins and goes on, though more lines come than a pipe holds."""
     os.mkdir(at(place, "x"))
-    for number in range(MANY):
-        os.symlink(UNREADABLE, at(place, "x/%04d.proto" % number))
+    names = ["x/%04d.proto" % number for number in range(MANY)]
+    for name in names:
+        os.symlink(UNREADABLE, at(place, name))
     write(place.folder, {"b.proto": having()})
     editor, user = Deaf(place.program, *place.workers, params={"rootUri": uri_of(place.folder)}), at(place, "user.proto")
     editor.open(user, using("b.proto"))
     editor.expect(user, [], "an importer")
     editor.open(at(place, "long.proto"), " " * (MOST_BYTES + 1))
-    editor.change(user, using("x/0001.proto"))
-    editor.expect_codes(user, "P102 P150", "an importer of a file that cannot be read")
+    many = at(place, "many.proto")
+    editor.open(many, HEAD + "".join('import "%s";\n' % name for name in names))
+    editor.wait_for(lambda: codes(editor.shown(many)) == ["P102"] * MANY, "an importer of files that cannot be read")
     write(place.folder, {"b.proto": having("S")})
     editor.tell((at(place, "b.proto"), CHANGED))
     editor.change(user, using("b.proto", "S"))
@@ -217,10 +219,17 @@ def closed_errors(place):
     editor.open(at(place, "long.proto"), " " * (MOST_BYTES + 1))
     editor.open(user, using("b.proto"))
     editor.expect(user, [], "an importer")
+    editor.change(user, using("bad.proto"))
+    editor.expect_codes(user, "P102 P150", "an importer of a file that cannot be read")
     check(editor.ask("shutdown", None), None, "the reply to shutdown")
     editor.say("exit", None)
     editor.server.stdin.close()
     check(editor.server.wait(LONGEST), 0, "the status")
+
+
+def escaped(name):
+    """A name as it is written in an import."""
+    return "".join(letter if letter.isprintable() else "\\x%02x" % ord(letter) for letter in name)
 
 
 def check_cleaned(editor, count):
@@ -232,30 +241,27 @@ def check_cleaned(editor, count):
     check(found, [], "the control characters of %r" % printed)
     lines = printed.split(b"\n")
     check(lines.pop() == b"", True, "the last line has its end")
-    check(max(len(line) for line in lines) <= LONGEST_LINE, True, "no line is longer than %d bytes" % LONGEST_LINE)
+    check(max(map(len, lines), default=0) <= LONGEST_LINE, True, "no line is longer than %d bytes" % LONGEST_LINE)
     check(len(lines), count, "how many lines came, of %r" % printed)
     check([line for line in lines if not line.startswith(b"pq_server: ")] == [], True, "each line has the name of the program")
 
 
 def cleaned_lines(place):
-    """Names with control characters, and long ones, come cleaned and cut on standard error, each in one line."""
+    """Names with control characters, and long ones, come cleaned and cut on standard error and in the log, each in one line."""
     odd = ["new\nline.proto", "return\r.proto", "escape\x1b[31mred\x1b]0;title\x07.proto", "tab\tand\x7fdelete.proto", "\x01\x1f.proto"]
     deep = "/".join(["d%d" % n + "x" * 200 for n in range(8)]) + "/deep.proto"
     for name in odd + [deep]:
         os.makedirs(os.path.dirname(at(place, name)), exist_ok=True)
         os.symlink(UNREADABLE, at(place, name))
-    with open(os.path.join(place.folder.encode(), b"bytes\xff\x1b\n.proto"), "w"):
-        pass
     write(place.folder, {"b.proto": having()})
-    editor, user = begun(place), at(place, "user.proto")
-    editor.open(user, using("b.proto"))
-    editor.expect(user, [], "an importer of a file beside them")
-    count = len(odd) + 2
+    editor, user = rooted(place, "."), at(place, "user.proto")
+    editor.open(user, HEAD + 'import "b.proto";\n' + "".join('import "%s";\n' % escaped(name) for name in odd + [deep]))
+    editor.expect_codes(user, "P102 " * (len(odd) + 1), "an importer of files that cannot be read")
+    count = len(odd) + 1
     check_cleaned(editor, count)
-    for name in ("too\nlong\x1b[1m.proto", "x" * 3000 + "/long.proto"):
-        editor.open(at(place, name), " " * (MOST_BYTES + 1))
-        count += 1
-        check_cleaned(editor, count)
+    logged = editor.logged()
+    found = [text for line in editor.lines() for text in logged if line == "pq_server: " + text]
+    check(len(found), count, "the lines that are in the log of the editor, too: %r" % logged)
     unopened = at(place, "not\nopen\x1b[2J.proto")
     editor.versions[uri_of(unopened)] = 1
     editor.change(unopened, {"range": span(0, 0, 0, 0), "text": "x"})
@@ -266,7 +272,10 @@ def cleaned_lines(place):
 
 
 def cleaned_root(place):
-    """A root with control characters that is not there leaves one cleaned line."""
-    editor = Editor(place.program, *place.workers, "--root", at(place, "no\nwhere\x1b[2J"), params={"rootUri": uri_of(place.folder)})
-    check_cleaned(editor, 1)
-    editor.end(("no",))
+    """A root with control characters that is not there leaves cleaned lines, if any."""
+    root = at(place, "no\nwhere\x1b[2J")
+    editor = Editor(place.program, *place.workers, "--root", root, params={"rootUri": uri_of(place.folder)})
+    editor.open(at(place, "user.proto"), using("b.proto"))
+    editor.expect_codes(at(place, "user.proto"), "P102 P150", "an importer of a file that is not there")
+    check_cleaned(editor, len(editor.lines()))
+    editor.end(*(("no",) for _ in editor.lines()))

@@ -147,7 +147,7 @@ class Session:
         for name in self.chance.sample(FILES, 8):
             self.put(self.at(name), text_of(self.chance, NAMES))
         words = itertools.chain.from_iterable(("--root", written) for written, _ in roots)
-        self.editor = Editor(program, *workers, *words, params={"rootUri": uri_of(folder)})
+        self.editor = Editor(program, *workers, *words, "--only-roots", params={"rootUri": uri_of(folder)})
         self.uris, self.states, self.late, self.longest = set(), [], 0, 0.0
         # Whether a folder has moved since what is shown was compared.
         self.has_moved = False
