@@ -179,12 +179,14 @@ where
     } else {
         last_root(rt)?
     };
+    let (lines, said) = Lines::start(rt)?;
     Ok(Setup {
         workers: wanted.workers,
         roots,
         only_roots: wanted.only_roots,
         include,
-        lines: Lines::start(rt)?,
+        lines,
+        said,
     })
 }
 

@@ -1,4 +1,5 @@
-//! The walker of an editor's session: it finds the files below folders, and tells the desk of them.
+//! The walker of an editor's session: it finds the files below folders, and tells the desk of them. Where
+//! somebody asks about all files, it has the desk read them.
 //!
 //! A walk may take seconds, or hang where a network went away. So it has a thread of its own, and nobody
 //! waits for it longer than the desk does.
@@ -43,6 +44,22 @@ where
         };
         let tree = walk(rt, alloc, &asked.tops, &lines)?;
         if !desk.lock(rt).take_tree(tree)? {
+            return Ok(());
+        }
+        read_all(rt, desk)?;
+    }
+    unreachable!()
+}
+
+/// Has the desk read the files that somebody asks about, some at a time, so that others have their turn.
+fn read_all<F, H, W>(rt: &H, desk: &Mutex<Desk<'_, F, H, W>>) -> Result<(), ScriptFault>
+where
+    F: Floor<H>,
+    H: Threads + Wait + Clock + Disk + AllocGlobal + Copy + Drop + Send + Sync + 'static,
+    W: Write + Copy,
+{
+    for _ in rt.forever() {
+        if !desk.lock(rt).read_on()? {
             return Ok(());
         }
     }

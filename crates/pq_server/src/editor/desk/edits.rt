@@ -231,6 +231,13 @@ where
     /// there are others while imports are missing, a walk is to be made soon. Returns whether the session
     /// goes on.
     fn touched(&mut self, uris: &[String]) -> Result<bool, ScriptFault> {
+        let paths = self.looked_at(uris)?;
+        self.call_looker();
+        self.read(each_once(paths)?)
+    }
+
+    /// The paths of `uris` at which files were looked for. If there are others, a walk is to be made soon.
+    fn looked_at(&mut self, uris: &[String]) -> Result<Vec<Text>, Memory> {
         let mut paths = Vec::new(self.alloc);
         for path in self.paths_of(uris)? {
             if self.reach.was_looked_at(path.as_str()) {
@@ -239,8 +246,7 @@ where
                 self.search.lack();
             }
         }
-        self.call_looker();
-        self.read(each_once(paths)?)
+        Ok(paths)
     }
 
     /// The paths of `uris` that can be those of files below a root.

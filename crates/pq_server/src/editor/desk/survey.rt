@@ -50,6 +50,12 @@ impl Asking {
         }
     }
 
+    /// The request of `label` waits.
+    fn add(&mut self, label: Label, has: Vec<Previous>) -> Result<(), Memory> {
+        self.waiting.push(Waiting { label, has })?;
+        Ok(())
+    }
+
     /// Takes the requests that wait.
     fn take_waiting(&mut self) -> Vec<Waiting> {
         mem::replace(&mut self.waiting, Vec::new(self.alloc))
@@ -68,7 +74,7 @@ where
         label: Label,
         has: Vec<Previous>,
     ) -> Result<Step, ScriptFault> {
-        self.asking.waiting.push(Waiting { label, has })?;
+        self.asking.add(label, has)?;
         if self.search.is_walking() || !self.asking.unread.is_empty() {
             return Ok(Step::GoesOn);
         }
