@@ -19,6 +19,7 @@ mod said;
 mod search;
 mod survey;
 
+use crate::editor::desk::asks::Held;
 pub(crate) use crate::editor::desk::reach::Reach;
 use crate::editor::desk::search::Search;
 use crate::editor::desk::survey::Asking;
@@ -108,7 +109,7 @@ pub(crate) struct Desk<'a, F: Floor<H>, H, W> {
     reach: Reach,
     search: Search,
     /// The requests that wait for the first walk, in their order.
-    held: VecDeque<Request<ProtoKey>>,
+    held: VecDeque<Held>,
     /// What was asked about all files.
     asking: Asking,
     /// The revision of the last edit.
@@ -291,7 +292,7 @@ where
         request: Request<ProtoKey>,
     ) -> Result<Step, ScriptFault> {
         match event {
-            Event::AsksLinks { label, uri } => self.answer_links(label, uri.as_str()),
+            Event::AsksLinks { label, uri } => self.answer_links(label, uri),
             Event::AsksWorkspace { label, has } => self.ask_workspace(label, has),
             _ => self.hand_in(Post::Ask(request)),
         }

@@ -15,6 +15,14 @@ use std::sync::Wait;
 use std::thread::Threads;
 use std::time::Clock;
 
+/// What waits for the first walk.
+#[derive(Drop)]
+pub(super) enum Held {
+    Request(Request<ProtoKey>),
+    /// The request of this label for the links of a document.
+    Links { label: Label, uri: String },
+}
+
 impl<F, H, W> Desk<'_, F, H, W>
 where
     F: Floor<H>,
@@ -35,14 +43,14 @@ where
             return Ok(Step::Overtaken);
         }
         if self.search.is_held(self.rt) {
-            return self.hold(request);
+            return self.hold(Held::Request(request));
         }
         self.ask_now(request)
     }
 
-    /// Keeps `request` until lists are held no longer.
-    fn hold(&mut self, request: Request<ProtoKey>) -> Result<Step, ScriptFault> {
-        match self.held.push_back(request) {
+    /// Keeps `held` until lists are held no longer.
+    pub(super) fn hold(&mut self, held: Held) -> Result<Step, ScriptFault> {
+        match self.held.push_back(held) {
             Ok(()) => Ok(Step::GoesOn),
             Err(_) => Err(ScriptFault::Memory),
         }
@@ -51,14 +59,22 @@ where
     /// Hands in the requests that wait. Returns whether the session goes on.
     pub(super) fn release(&mut self) -> Result<bool, ScriptFault> {
         for _ in 0..self.held.len() {
-            let Some(request) = self.held.pop_front() else {
+            let Some(held) = self.held.pop_front() else {
                 return Ok(true);
             };
-            if self.ask_now(request)? != Step::GoesOn {
+            if self.ask_held(held)? != Step::GoesOn {
                 return Ok(false);
             }
         }
         Ok(true)
+    }
+
+    /// Does what `held` asks for.
+    fn ask_held(&mut self, held: Held) -> Result<Step, ScriptFault> {
+        match held {
+            Held::Request(request) => self.ask_now(request),
+            Held::Links { label, uri } => self.answer_links_now(label, uri.as_str()),
+        }
     }
 
     /// Withdraws the request of `label`. If requests wait, they are handed in before.

@@ -50,6 +50,7 @@ where
             return Ok(true);
         };
         let path = self.path_of(face.as_str())?;
+        self.call_looker();
         if self.roots.add_own(path.as_str(), face.as_str())? && !self.take_roots()? {
             return Ok(false);
         }
@@ -174,6 +175,7 @@ where
             }
             Event::Answers => {
                 self.unanswered = self.unanswered.saturating_sub(1);
+                self.go_on_with_progress()?;
                 Ok(Step::GoesOn)
             }
             Event::Opens { uri, .. } => {
@@ -273,6 +275,7 @@ where
     /// `document` is open no longer: its file is read. Returns whether the session goes on.
     fn leave(&mut self, document: Document) -> Result<bool, ScriptFault> {
         let paths = one(self.alloc, &document.path)?;
+        self.call_looker();
         let goes_on = self.read(paths)?;
         Ok(goes_on && self.end_document(document)?)
     }
@@ -394,7 +397,7 @@ where
     }
 
     /// Reaches the names that the text `text` of the file `name` imports.
-    fn want_imports(&mut self, name: &str, text: &Text) -> Result<(), Memory> {
+    fn want_imports(&mut self, name: &str, text: &Text) -> Result<(), ScriptFault> {
         if !text.as_str().contains("import") || text.as_str().len() > MAX_TEXT {
             return Ok(());
         }

@@ -10,6 +10,7 @@ use crate::editor::tree::Tree;
 use crate::editor::walker::Walk;
 use crate::library::Failure;
 use crate::serving::floor::Floor;
+use pq_editor::FileFault;
 use pq_inputs::Durability;
 use pq_session::{Memory, ScriptFault, looked_in};
 use pq_view::Text;
@@ -170,7 +171,7 @@ where
     }
 
     /// Reaches the names of each open document.
-    fn want_documents(&mut self) -> Result<(), Memory> {
+    fn want_documents(&mut self) -> Result<(), ScriptFault> {
         let paths = self.files.lock(self.rt).documents.paths()?;
         for path in paths {
             self.want_path(&path)?;
@@ -180,7 +181,7 @@ where
 
     /// Reaches the names of the file at `path` below the roots, and the path, which is its name where it
     /// is found below none.
-    pub(super) fn want_path(&mut self, path: &Text) -> Result<(), Memory> {
+    pub(super) fn want_path(&mut self, path: &Text) -> Result<(), ScriptFault> {
         let names = self.files.lock(self.rt).view.names_of(path.as_str())?;
         for name in names {
             self.want(name.as_str(), path, false)?;
@@ -195,11 +196,11 @@ where
         name: &str,
         importer: &Text,
         is_imported: bool,
-    ) -> Result<(), Memory> {
-        if !self.reach.want(name, importer, is_imported)? {
-            self.say_too_many(name);
+    ) -> Result<(), ScriptFault> {
+        if self.reach.want(name, importer, is_imported)? {
+            return Ok(());
         }
-        Ok(())
+        self.say_too_many(name)
     }
 
     /// Begins a walk if imports are missing and it is time for one. If one is under way lists are held for
@@ -232,8 +233,12 @@ where
         if ways.walks.try_send(self.rt, Walk { tops }).is_err() {
             return Ok(());
         }
+        let is_first = !self.search.is_over();
         self.search.begin(self.rt, holds);
-        self.begin_progress()
+        if is_first {
+            return self.ask_for_progress();
+        }
+        Ok(())
     }
 
     /// Takes what a walk found: the roots that it shows for missing imports. What waited for it goes on.
@@ -270,11 +275,13 @@ where
     }
 
     /// Says once that there are too many files.
-    fn say_too_many(&mut self, name: &str) {
-        if self.said.is_first_too_many() {
-            self.lines
-                .say_failure(self.rt, name, &Failure::TooManyFiles);
+    fn say_too_many(&mut self, name: &str) -> Result<(), ScriptFault> {
+        if self.said.is_full() {
+            return Ok(());
         }
+        self.lines
+            .say_failure(self.rt, name, &Failure::TooManyFiles);
+        self.tell_of(name, FileFault::TooMany)
     }
 }
 

@@ -1,4 +1,5 @@
 //! What is asked of imports: the links of a document, and the file that an import's string leads to.
+use crate::editor::desk::asks::Held;
 use crate::editor::desk::{Desk, Step};
 use crate::editor::disk::Disk;
 use crate::serving::floor::Floor;
@@ -16,12 +17,24 @@ where
     H: Threads + Wait + Clock + Disk + AllocGlobal + Copy + Drop + Send + Sync + 'static,
     W: Write + Copy,
 {
-    /// Replies the links of the document `uri` to the request of `label`. A document that is not open has
-    /// none.
-    pub(super) fn answer_links(&mut self, label: Label, uri: &str) -> Result<Step, ScriptFault> {
+    /// Replies the links of the document `uri` to the request of `label`. While lists are held it waits.
+    pub(super) fn answer_links(&mut self, label: Label, uri: String) -> Result<Step, ScriptFault> {
         if !self.settle()? {
             return Ok(Step::Overtaken);
         }
+        if self.search.is_held(self.rt) {
+            return self.hold(Held::Links { label, uri });
+        }
+        self.answer_links_now(label, uri.as_str())
+    }
+
+    /// Replies the links of the document `uri` to the request of `label`. A document that is not open has
+    /// none.
+    pub(super) fn answer_links_now(
+        &mut self,
+        label: Label,
+        uri: &str,
+    ) -> Result<Step, ScriptFault> {
         let links = self.links_in(uri)?;
         let text = links_text(self.alloc, &links)?;
         let text = result_text(self.alloc, &label, text.as_str())?;

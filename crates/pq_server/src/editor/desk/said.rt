@@ -13,33 +13,40 @@ use std::sync::Wait;
 use std::thread::Threads;
 use std::time::Clock;
 
+/// How far the progress of the first walk is shown.
+#[derive(Clone, Copy, PartialEq, Eq)]
+enum Progress {
+    /// It is not shown.
+    Hidden,
+    /// The client was asked whether it is shown.
+    Asked,
+    /// It is shown.
+    Shown,
+}
+
 /// What was said once, and is not said again.
 #[derive(Clone, Copy)]
 pub(super) struct Said {
-    too_many: bool,
     too_long: bool,
     not_utf8: bool,
-    full: bool,
-    is_in_progress: bool,
+    too_many: bool,
+    progress: Progress,
 }
 
 impl Said {
     /// Nothing was said.
     pub(super) fn new() -> Said {
         Said {
-            too_many: false,
             too_long: false,
             not_utf8: false,
-            full: false,
-            is_in_progress: false,
+            too_many: false,
+            progress: Progress::Hidden,
         }
     }
 
-    /// Whether nothing was said of too many files. It is said then.
-    pub(super) fn is_first_too_many(&mut self) -> bool {
-        let is_first = !self.too_many;
-        self.too_many = true;
-        is_first
+    /// Whether the user was told of too many files.
+    pub(super) fn is_full(&self) -> bool {
+        self.too_many
     }
 
     /// Whether the user was not told of `fault`. The user is told then.
@@ -56,8 +63,8 @@ impl Said {
                 is_first
             }
             FileFault::TooMany => {
-                let is_first = !self.full;
-                self.full = true;
+                let is_first = !self.too_many;
+                self.too_many = true;
                 is_first
             }
         }
@@ -87,24 +94,37 @@ where
         self.output.send_list(self.rt, body.as_str())
     }
 
-    /// Shows that the walk has begun, if the client shows progress.
-    pub(super) fn begin_progress(&mut self) -> Result<(), ScriptFault> {
-        if !self.takes.progress || !self.takes.is_ready || self.said.is_in_progress {
+    /// Asks the client whether it shows the progress of the walk, if it said that it can.
+    pub(super) fn ask_for_progress(&mut self) -> Result<(), ScriptFault> {
+        let is_hidden = self.said.progress == Progress::Hidden;
+        if !self.takes.progress || !self.takes.is_ready || !is_hidden {
             return Ok(());
         }
-        self.said.is_in_progress = true;
+        self.said.progress = Progress::Asked;
         self.unanswered = self.unanswered.saturating_add(1);
-        self.output.send_list(self.rt, BEGIN_PROGRESS_REQUEST)?;
+        self.output.send_list(self.rt, BEGIN_PROGRESS_REQUEST)
+    }
+
+    /// Shows that the walk has begun, once the client has answered, if it is still under way.
+    pub(super) fn go_on_with_progress(&mut self) -> Result<(), ScriptFault> {
+        if self.said.progress != Progress::Asked || self.unanswered > 0 {
+            return Ok(());
+        }
+        if !self.search.is_walking() {
+            self.said.progress = Progress::Hidden;
+            return Ok(());
+        }
+        self.said.progress = Progress::Shown;
         let body = progress_begun(self.alloc, "pq_server: looking for .proto files")?;
         self.output.send_list(self.rt, body.as_str())
     }
 
-    /// Shows that the walk has ended.
+    /// Shows that the walk has ended, if it was shown that it has begun.
     pub(super) fn end_progress(&mut self) -> Result<(), ScriptFault> {
-        if !self.said.is_in_progress {
+        if self.said.progress != Progress::Shown {
             return Ok(());
         }
-        self.said.is_in_progress = false;
+        self.said.progress = Progress::Hidden;
         let body = progress_ended(self.alloc)?;
         self.output.send_list(self.rt, body.as_str())
     }

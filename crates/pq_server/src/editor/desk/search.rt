@@ -59,6 +59,11 @@ impl Search {
         self.is_walking
     }
 
+    /// Whether the first walk has ended, or lists were held long enough for it.
+    pub(crate) fn is_over(&self) -> bool {
+        self.is_over
+    }
+
     /// The last walk shows no root for a name that is missing since.
     pub(crate) fn lack(&mut self) {
         self.lacks = true;

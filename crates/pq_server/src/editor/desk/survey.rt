@@ -125,7 +125,7 @@ where
     }
 
     /// Reaches the first name of the file at `path` below the roots.
-    fn want_first(&mut self, path: &Text) -> Result<(), Memory> {
+    fn want_first(&mut self, path: &Text) -> Result<(), ScriptFault> {
         let names = self.files.lock(self.rt).view.names_of(path.as_str())?;
         match names.first() {
             Some(name) => self.want(name.as_str(), path, false),
