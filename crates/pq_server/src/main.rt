@@ -148,17 +148,16 @@ fn roots_of<R: Env + Files + AllocGlobal + Eprint>(
     Ok(roots)
 }
 
-/// What the command line says of the session of an editor.
-#[derive(Clone, Copy)]
-struct Wanted<'a> {
+/// How the session of an editor is set up, with the root folders `folders`. If one is not known, a line
+/// says why. With `only_roots` no other folder is searched but the one that comes with the program, which
+/// `no_include` leaves out.
+fn setup_of<R>(
+    rt: &R,
     workers: u8,
-    folders: &'a [&'a str],
+    folders: &[&str],
     only_roots: bool,
     no_include: bool,
-}
-
-/// How the session is set up that the command line wants. If a folder is not known, a line says why.
-fn setup_of<R>(rt: &R, wanted: Wanted<'_>) -> Result<Setup, LibraryFault>
+) -> Result<Setup, LibraryFault>
 where
     R: Threads
         + Wait
@@ -173,59 +172,47 @@ where
         + Sync
         + 'static,
 {
-    let roots = roots_of(rt, wanted.folders)?;
-    let include = if wanted.no_include {
-        None
-    } else {
-        last_root(rt)?
-    };
+    let roots = roots_of(rt, folders)?;
+    let include = if no_include { None } else { last_root(rt)? };
     let (lines, said) = Lines::start(rt)?;
     Ok(Setup {
-        workers: wanted.workers,
+        workers,
         roots,
-        only_roots: wanted.only_roots,
+        only_roots,
         include,
         lines,
         said,
     })
 }
 
-/// Serves one editor from `input` to `output`. Returns the exit status.
-fn run_for_editor<R, I, W>(rt: &R, input: I, output: W, wanted: Wanted<'_>) -> u8
+/// Says on standard error why no session was started. Returns the exit status.
+fn say_not_started(rt: &impl Eprint, fault: LibraryFault) -> u8 {
+    let (status, line) = not_started(fault);
+    let _ = eprint!(rt; "{line}");
+    status
+}
+
+/// Serves one editor from `input` to `output`, as `setup` says. Its lines say how it ended. Returns the
+/// exit status.
+fn run_for_editor<R, I, W>(
+    rt: &R,
+    input: I,
+    output: W,
+    setup: Result<Setup, LibraryFault>,
+) -> u8
 where
-    R: Threads
-        + Wait
-        + Clock
-        + Env
-        + Files
-        + Disk
-        + Eprint
-        + AllocGlobal
-        + Copy
-        + Drop
-        + Send
-        + Sync
-        + 'static,
+    R: Threads + Wait + Clock + Disk + Eprint + AllocGlobal + Copy + Drop + Send + Sync + 'static,
     I: Read + Drop + Send + 'static,
     W: Write + Copy + Drop + Send + Sync + 'static,
 {
-    let setup = match setup_of(rt, wanted) {
+    let setup = match setup {
         Ok(setup) => setup,
-        Err(fault) => {
-            let (status, line) = not_started(fault);
-            let _ = eprint!(rt; "{line}");
-            return status;
-        }
+        Err(fault) => return say_not_started(rt, fault),
     };
-    let lines = match setup.lines.copy() {
-        Ok(lines) => lines,
-        Err(_) => {
-            let (status, line) = not_started(LibraryFault::Memory);
-            let _ = eprint!(rt; "{line}");
-            return status;
-        }
-    };
-    serve_with(rt, input, output, setup, lines)
+    match setup.lines.copy() {
+        Ok(lines) => serve_with(rt, input, output, setup, lines),
+        Err(_) => say_not_started(rt, LibraryFault::Memory),
+    }
 }
 
 /// Serves one editor, and says on `lines` how it ended. Returns the exit status.
@@ -291,13 +278,8 @@ fn main(rt: HostRuntime) -> ExitCode {
             only_roots,
             no_include,
         } => {
-            let wanted = Wanted {
-                workers,
-                folders: roots.as_slice(),
-                only_roots,
-                no_include,
-            };
-            run_for_editor(&rt, rt.stdin(), rt.stdout(), wanted)
+            let setup = setup_of(&rt, workers, roots.as_slice(), only_roots, no_include);
+            run_for_editor(&rt, rt.stdin(), rt.stdout(), setup)
         }
     };
     ExitCode::from(status)
