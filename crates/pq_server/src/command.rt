@@ -112,9 +112,7 @@ fn stdio<'a>(alloc: Global) -> Result<Command<'a>, Error> {
         .action(ArgAction::Append);
     let only_roots = Arg::new(alloc, "only-roots")
         .long("only-roots")
-        .help(
-            "searches the folders of --root alone: none of the editor, none that imports show",
-        )
+        .help("searches the folders of --root alone: none of the editor, none that imports show")
         .action(ArgAction::SetTrue);
     let no_include = Arg::new(alloc, "no-include")
         .long("no-include")

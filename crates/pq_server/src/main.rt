@@ -18,7 +18,8 @@ use clap::Error;
 use command::{Task, task_of};
 use editor::{Disk, Lines, Setup, serve_editor};
 use library::{
-    Failure, LibraryFault, absolute_of, last_root, no_library, read_library, run_library_script, say,
+    Failure, LibraryFault, absolute_of, last_root, no_library, read_library, run_library_script,
+    say,
 };
 use log::Log;
 use pq_hall::{HallRules, Loose, Strict};
@@ -194,12 +195,7 @@ fn say_not_started(rt: &impl Eprint, fault: LibraryFault) -> u8 {
 
 /// Serves one editor from `input` to `output`, as `setup` says. Its lines say how it ended. Returns the
 /// exit status.
-fn run_for_editor<R, I, W>(
-    rt: &R,
-    input: I,
-    output: W,
-    setup: Result<Setup, LibraryFault>,
-) -> u8
+fn run_for_editor<R, I, W>(rt: &R, input: I, output: W, setup: Result<Setup, LibraryFault>) -> u8
 where
     R: Threads + Wait + Clock + Disk + Eprint + AllocGlobal + Copy + Drop + Send + Sync + 'static,
     I: Read + Drop + Send + 'static,

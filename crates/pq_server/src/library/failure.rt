@@ -31,9 +31,7 @@ pub(crate) enum Failure {
     #[error("the ranges of a change do not fit the text; the document is taken as closed")]
     BadRanges,
     /// A walk met one of its limits.
-    #[error(
-        "not all files below the folders are found: there are too many, they lie too deep, or the walk takes too long"
-    )]
+    #[error("not all files below the folders are found: there are too many, they lie too deep, or the walk takes too long")]
     WalkCut,
     /// Below the folder are more than `MAX_FILES` files.
     #[error("there are more than {most} files whose names end in .proto", most = MAX_FILES)]
