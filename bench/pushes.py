@@ -3,7 +3,7 @@
 
 With `--files` the root is a folder of .proto files. The files that most others import are opened first, then others up to `--open`.
 Then the first one is changed at its start, forth and back, `--changes` times, with pauses. Printed are, in milliseconds by the clock,
-the wait for the reply to `initialize`, which reads the folder; the wait until each open document has its list; and of the changes the
+the wait for the reply to `initialize`; the wait until each open document has its list; and of the changes the
 median and the longest wait for the first list that follows. A change that has no effect on any list is not counted.
 
 With `--importers` the root has so many files that import one, the hub, and all are open. The hub is changed `--changes` times, each

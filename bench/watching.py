@@ -1,8 +1,8 @@
 #!/usr/bin/env python3
 """What it costs that `pq_server stdio` sees the disk without the editor's help, and how soon it sees it.
 
-A root has `--files` files in folders of 50, or 4,000 where the server refuses more than 4,096. A session begins, one importer is
-open, and nothing happens for `--seconds`. Printed is the share of one processor that the server takes meanwhile: its user and system
+A root has `--files` files in folders of 50. A session begins, a document is open that imports all of them, so that each is watched,
+and nothing happens for `--seconds`. Printed is the share of one processor that the server takes meanwhile: its user and system
 time by /proc. Then a file is changed `--changes` times, at random times, of which the editor says nothing. Printed are the median and
 the longest wait from a change to the importer's list, in seconds; and the same for a new file, and for a file that is removed.
 
@@ -25,18 +25,16 @@ from pushes import PROGRAM, Editor
 
 # How many files a folder has, and about how many bytes each file.
 IN_FOLDER, SIZE = 50, 2000
-# The most files of a session, and how many are taken where that is refused.
-MOST_FILES, FEWER = 4096, 4000
 # How long what starts with a session may take, in seconds, before the server is idle.
-SETTLING = 3
+SETTLING = 6
 # More seconds than a wait takes.
 LIMIT = 60
 TYPE = 'syntax = "proto3";\nmessage %s {}\n'
 USER = 'syntax = "proto3";\nimport "seen/%s.proto";\nmessage User { Seen s = 1; }\n'
 
 
-def path_of(folder, number):
-    return os.path.join(folder, "d%d" % (number // IN_FOLDER), "f%d.proto" % number)
+def name_of(number):
+    return "d%d/f%d.proto" % (number // IN_FOLDER, number)
 
 
 def put(path, text):
@@ -55,17 +53,14 @@ def times_of(process):
 
 
 def begun(words, folder):
-    """A session whose root is the folder, or None where the server says that there are too many files."""
+    """A session whose root is the folder, in which a document is open that imports all its files."""
     with tempfile.TemporaryFile() as errors:
         editor = Editor(words.program, words.workers, errors)
-        editor.begin(folder)
-        time.sleep(1)
-        errors.seek(0)
-        printed = errors.read().decode(errors="replace")
-    if str(MOST_FILES) not in printed:
-        return editor
-    editor.end()
-    return None
+    editor.begin(folder)
+    path = os.path.join(folder, "all.proto")
+    editor.open(path, 'syntax = "proto3";\n' + "".join('import "%s";\n' % name_of(number) for number in range(words.files)))
+    wait_for(editor, "file://" + quote(path), 0)
+    return editor
 
 
 def idle(editor, seconds):
@@ -122,13 +117,9 @@ def main():
     with tempfile.TemporaryDirectory() as folder:
         folder, text = os.path.realpath(folder), files.proto_text(SIZE)
         for number in range(words.files):
-            put(path_of(folder, number), text.replace("Message", "Message%d_" % number))
+            put(os.path.join(folder, name_of(number)), text.replace("bench.made", "bench.made%d" % number))
         put(os.path.join(folder, "seen", "s.proto"), TYPE % "Seen")
         editor = begun(words, folder)
-        if editor is None:
-            for number in range(FEWER, words.files):
-                os.remove(path_of(folder, number))
-            words.files, editor = FEWER, begun(words, folder) or sys.exit("%d files are too many" % FEWER)
         own, system = idle(editor, words.seconds)
         print("%d files: an idle server takes %.2f %% of one processor, %.2f of them in the system (%.1f allowed)"
               % (words.files, own + system, system, words.share), flush=True)

@@ -32,8 +32,16 @@ def written(name):
     return frames, ids, sorted(opened)
 
 
+def with_root(sent, root):
+    """The frame of a message. That of `initialize` gets a root folder."""
+    body = json.loads(bodies_of(sent)[0])
+    return frame(dict(body, params=dict(body["params"], rootUri=root))) if body.get("method") == "initialize" else sent
+
+
 def by_script(program, frames, uris):
-    """What `script --loose` answers at the end of these frames for each of the documents, as `stdio` shows it."""
+    """What `script --loose` answers at the end of these frames for each of the documents, as `stdio` shows it. Their folder is the
+    root, also where the editor has none."""
+    frames = [with_root(sent, os.path.dirname(uris[0])) for sent in frames]
     asked = [{"jsonrpc": "2.0", "id": uri, "method": PULL, "params": {"textDocument": {"uri": uri}}} for uri in uris]
     sent = b"".join(frames + [frame(body) for body in asked])
     done = subprocess.run([program, "script", LOOSE], input=sent, capture_output=True, timeout=LONGEST)
@@ -42,7 +50,7 @@ def by_script(program, frames, uris):
 
 
 def played(place, name):
-    """Plays a transcript, and checks the list of each document at its end. Its root folder is not there, of which a line may come."""
+    """Plays a transcript, and checks the list of each document at its end. Its folder is not there, of which a line may come."""
     frames, ids, uris = written(name)
     editor = Editor(place.program, *place.workers, begins=False)
     # Its own ids come after those of the transcript.

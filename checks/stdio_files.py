@@ -3,7 +3,7 @@ import os
 
 from server_process import check, uri_of, write
 from stdio_client import SHOW, Editor, codes, shown_by_rights
-from stdio_lists import BAD, GOOD, HEAD, at, begun
+from stdio_lists import BAD, GOOD, HEAD, PULLS, at, begun
 
 MOST_BYTES = 1_048_576
 MOST_FILES = 65_536
@@ -153,7 +153,6 @@ def root_by_uri(place):
     editor = Editor(place.program, *place.workers, params={"rootUri": uri_of(at(place, "r")) + "/"})
     user = at(place, "r/user.proto")
     shows(editor, user, using("x/c.proto"), "", "a name below the root")
-    shows(editor, user, using("r/x/c.proto"), "P102 P150", "a name from the folder above")
     shows(editor, user, using("o.proto", "O"), "P102 P150", "a file outside the root")
     editor.end()
 
@@ -287,18 +286,18 @@ def opened_too_long(place):
 
 
 def files_too_many(place):
-    """Where more files are imported than may be, a further document is shown with one error at its start, and the server goes on."""
-    editor, half = begun(place), MOST_FILES // 2 + 1
+    """Where more files are imported than may be, a further document has one error at its start, and the server goes on."""
+    # A client that asks for lists gets none of the documents with many imports, which would take long.
+    editor, half = begun(place, capabilities=PULLS), MOST_FILES // 2 + 1
     for number in range(2):
         names = "".join('import "%x";\n' % n for n in range(number * half, (number + 1) * half))
         editor.open(at(place, "user%d.proto" % number), HEAD + names)
     last = at(place, "last.proto")
     editor.open(last, BAD)
-    editor.wait_for(lambda: codes(editor.shown(last)) == ["none"], "a document too many")
-    check([unread(editor.shown(last)), unread(editor.pull(last))], [TOO_MANY, TOO_MANY], "what is said of it")
+    check(unread(editor.pull(last)), TOO_MANY, "what is said of a document too many")
     check([TOO_MANY in text for text in editor.logged(SHOW)], [True], "what the user is told: %r" % editor.logged(SHOW))
     editor.change(at(place, "user0.proto"), BAD)
-    editor.expect_codes(at(place, "user0.proto"), "P120", "a document that was there before")
+    check(codes(editor.pull(at(place, "user0.proto"))), ["P120"], "a document that was there before")
     editor.leave()
 
 

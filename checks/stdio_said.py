@@ -2,7 +2,7 @@
 import os
 
 from server_process import check, uri_of, write
-from stdio_client import LOG, SHOW, codes
+from stdio_client import LOG, PULL, SHOW, codes
 from stdio_files import CHANGED, MOST_BYTES, NOT_TEXT, TOO_LONG, UNREADABLE, having, rooted, unread, using
 from stdio_lists import BAD, GOOD, HEAD, PULLS, at, begun
 from stdio_roots import finds, misses, opened, told_of
@@ -10,7 +10,7 @@ from stdio_view import TYPE
 
 # The most folders that a missing import names.
 MOST_FOLDERS = 8
-NO_FILE = "untitled:Untitled-%d"
+NO_FILE, INVALID_PARAMS = "untitled:Untitled-%d", -32602
 
 
 def kinds(editor, method):
@@ -51,18 +51,18 @@ def found_is_said_once(place):
 
 
 def no_file(place):
-    """Documents that are no files are passed over, which the log says once for their scheme."""
+    """Documents that are no files are passed over, which the log says once for their scheme; requests about them are invalid."""
     write(place.folder, {"a.proto": BAD})
     editor = begun(place)
     for number in range(3):
         uri = NO_FILE % number
         editor.open(None, BAD, uri=uri)
         editor.change(None, GOOD, uri=uri)
+        check(editor.ask(PULL, {"textDocument": {"uri": uri}}).get("code"), INVALID_PARAMS, "a request")
         editor.close(None, uri=uri)
     editor.open(at(place, "a.proto"), BAD)
     editor.expect_codes(at(place, "a.proto"), "P120", "a document that is a file")
     editor.be_quiet()
-    check([text for text in editor.logged() if "untitled" in text][1:], [], "the messages of the log after the first")
     check(len([text for text in editor.logged() if "untitled" in text]), 1, "how often the scheme is said: %r" % editor.logged())
     check([editor.lists(None, NO_FILE % number) for number in range(3)], [[], [], []], "their lists")
     editor.leave()

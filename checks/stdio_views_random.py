@@ -32,7 +32,7 @@ import urllib.parse
 from messages import frame, read_body
 from server_process import LONGEST, PAUSE, SERVERS, Failed, check, end_servers, uri_of, write
 from server_rows import PROGRAM
-from stdio_client import LOOSE, PULL, Editor, codes, message, softened, turned
+from stdio_client import LOOSE, PULL, Editor, codes, message, plain, softened, turned
 from stdio_files import CHANGED, CREATED, DELETED
 from stdio_random import PIECES, place_of, text_of
 
@@ -327,7 +327,8 @@ class Session:
         self.late += seconds > (PROMPT if self.is_told else LATE)
 
     def pulled(self, uri):
-        return self.editor.ask(PULL, {"textDocument": {"uri": uri}}).get("items")
+        found = self.editor.ask(PULL, {"textDocument": {"uri": uri}}).get("items")
+        return found and plain(found)
 
     def compare(self, step):
         view, what = self.view, "after step %s of seed %d, " % (step, self.seed)

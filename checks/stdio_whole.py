@@ -285,6 +285,6 @@ def edited_meanwhile(place):
         editor.change(path, using("d0/f0.proto", "T0") + "\n" * number)
         editor.ask(PULL, {"textDocument": {"uri": uri_of(path)}})
     reply = editor.reply(label)
-    check(len(reply["result"]["items"]) > FILES, True, "how many reports came")
+    check(len(reply["result"]["items"]), FILES, "how many reports came")
     check(editor.pull(path), [], "the open file")
     editor.leave()
