@@ -85,11 +85,7 @@ impl Files {
     }
 
     /// The file on the disk at `path` is not read because of `fault`, if there is one.
-    pub(crate) fn set_fault(
-        &mut self,
-        path: &str,
-        fault: Option<FileFault>,
-    ) -> Result<(), Memory> {
+    pub(crate) fn set_fault(&mut self, path: &str, fault: Option<FileFault>) -> Result<(), Memory> {
         match fault {
             Some(fault) => {
                 let path = String::from_str(self.alloc, path)?;

@@ -83,12 +83,7 @@ impl Reach {
     }
 
     /// Reaches `name`, which was not reached.
-    fn want_new(
-        &mut self,
-        name: &str,
-        importer: &Text,
-        is_imported: bool,
-    ) -> Result<bool, Memory> {
+    fn want_new(&mut self, name: &str, importer: &Text, is_imported: bool) -> Result<bool, Memory> {
         if self.names.len() >= MOST_FILES {
             return Ok(false);
         }
