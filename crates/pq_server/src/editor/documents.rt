@@ -32,12 +32,13 @@ impl Document {
         self.text.as_str().len() <= MAX_TEXT
     }
 
-    /// Why it is not read, if it is not. `reach` are the names for which there is room.
-    pub(crate) fn fault(&self, reach: &Reach) -> Option<FileFault> {
+    /// Why it is not read, if it is not. `reach` are the names for which there is room, and `name` is its
+    /// own.
+    pub(crate) fn fault(&self, reach: &Reach, name: &str) -> Option<FileFault> {
         if !self.has_room() {
             return Some(FileFault::TooLong);
         }
-        if !self.name.as_str().is_empty() && !reach.has(self.name.as_str()) {
+        if !reach.has(name) {
             return Some(FileFault::TooMany);
         }
         None
@@ -146,6 +147,6 @@ fn asked_of(alloc: Global, document: &Document, reach: &Reach) -> Result<Asked, 
         uri: String::from_str(alloc, document.uri.as_str())?,
         name: document.name.copy()?,
         version: document.version,
-        fault: document.fault(reach),
+        fault: document.fault(reach, document.name.as_str()),
     })
 }

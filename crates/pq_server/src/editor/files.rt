@@ -99,11 +99,13 @@ impl Files {
     }
 
     /// Why the file at `path` is not read, if it is not: that of its document, else that of the disk.
-    pub(crate) fn fault_at(&self, reach: &Reach, path: &str) -> Option<FileFault> {
-        match self.documents.at(path) {
-            Some(document) => document.fault(reach),
-            None => self.faults.get(path).copied(),
-        }
+    /// `reach` are the names for which there is room.
+    pub(crate) fn fault_at(&self, reach: &Reach, path: &str) -> Result<Option<FileFault>, Memory> {
+        let Some(document) = self.documents.at(path) else {
+            return Ok(self.faults.get(path).copied());
+        };
+        let name = self.view.name_of(path)?;
+        Ok(document.fault(reach, name.as_str()))
     }
 
     /// Takes the paths that are to be read again.

@@ -1,6 +1,6 @@
 //! Why a folder or a file was not taken, with its line on standard error.
 use crate::library::fault::LibraryFault;
-use pq_inputs::{MAX_FILES, MAX_TEXT};
+use pq_inputs::{MAX_FILES, MAX_TEXT, MOST_FILES};
 use std::alloc::{AllocError, AllocFailed};
 use std::io;
 use std::io::ErrorKind;
@@ -33,6 +33,9 @@ pub(crate) enum Failure {
     /// A walk met one of its limits.
     #[error("not all files below the folders are found: there are too many, they lie too deep, or the walk takes too long")]
     WalkCut,
+    /// Documents reach more than `MOST_FILES` files.
+    #[error("more than {most} files are open or imported", most = MOST_FILES)]
+    TooManyNames,
     /// Below the folder are more than `MAX_FILES` files.
     #[error("there are more than {most} files whose names end in .proto", most = MAX_FILES)]
     TooManyFiles,

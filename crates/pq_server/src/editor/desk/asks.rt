@@ -5,7 +5,7 @@ use crate::editor::line::Handed;
 use crate::library::joined;
 use crate::serving::floor::Floor;
 use pq_core::{Label, Request, Want};
-use pq_editor::{FileFault, fault_report};
+use pq_editor::fault_report;
 use pq_mail::Post;
 use pq_proto::{Place, ProtoKey};
 use pq_session::{Memory, ScriptFault, asked_file, renamed, result_text};
@@ -116,15 +116,14 @@ where
 
     /// The report of the file at `path`, if it is not read.
     fn report_of_fault(&self, path: &Text) -> Result<Option<String>, Memory> {
-        match self.fault_at(path.as_str()) {
+        let fault = self
+            .files
+            .lock(self.rt)
+            .fault_at(&self.reach, path.as_str())?;
+        match fault {
             Some(fault) => Ok(Some(fault_report(self.alloc, fault)?)),
             None => Ok(None),
         }
-    }
-
-    /// Why the file at `path` is not read, if it is not.
-    pub(super) fn fault_at(&self, path: &str) -> Option<FileFault> {
-        self.files.lock(self.rt).fault_at(&self.reach, path)
     }
 
     /// The result of the definition at `place` of the file at `path`, if an import's string is there.

@@ -280,7 +280,7 @@ where
             return Ok(());
         }
         self.lines
-            .say_failure(self.rt, name, &Failure::TooManyFiles);
+            .say_failure(self.rt, name, &Failure::TooManyNames);
         self.tell_of(name, FileFault::TooMany)
     }
 }

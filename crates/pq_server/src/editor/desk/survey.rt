@@ -186,7 +186,7 @@ where
     ) -> Result<Option<Surveyed>, Memory> {
         let files = self.files.lock(self.rt);
         let name = files.view.name_of(path.as_str())?;
-        let fault = files.fault_at(&self.reach, path.as_str());
+        let fault = files.fault_at(&self.reach, path.as_str())?;
         if fault.is_none() && !self.reach.is_there(name.as_str()) {
             return Ok(None);
         }
