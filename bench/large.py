@@ -10,7 +10,12 @@ Printed are the milliseconds to the reply to `initialize`, from each of these op
 the median of `--runs`; the milliseconds until the diagnostics of all files come, and until they come unchanged; and the resident
 memory of the server, before and after that, by the bytes of all texts.
 
+With `--names` an editor that pulls opens two documents that import more files than the server takes, none of which is there, and then
+one more. Printed are the seconds that this takes, the resident memory, and what is said of the last one: the status is 1 if that is not
+that there are too many files, or if the user is not told.
+
 usage: bench/large.py [--program P] [--files N ..] [--runs N] [--workers N]
+       bench/large.py --names [--program P] [--workers N]
 """
 import argparse
 import os
@@ -18,6 +23,7 @@ import queue
 import statistics
 import sys
 import tempfile
+import time
 from urllib.parse import quote
 
 import files
@@ -25,7 +31,9 @@ from pushes import PROGRAM, Editor
 
 IN_FOLDER, SIZE = 50, 2000
 # More seconds than a wait takes.
-LIMIT = 120
+LIMIT = 600
+# The most names of a session, and what is said of a file too many.
+MOST_NAMES, TOO_MANY = 65536, "more than 65536 files are open or imported"
 PULLS = {"textDocument": {"diagnostic": {}}}
 USER = 'syntax = "proto3";\n%smessage User {}\n'
 OPENED = (("no import", ""), ("an import from the top", 'import "proto/d1/f99.proto";\n'), ("one that a walk finds", 'import "d1/f99.proto";\n'),
@@ -105,13 +113,42 @@ def whole(words, folder, size, errors):
     editor.end()
 
 
+def too_many_names(words):
+    """Opens documents with too many imports, and one more. Returns the status."""
+    half, told = MOST_NAMES // 2 + 1, []
+
+    def comes(body):
+        told.extend([body["params"]["message"]] if body.get("method") == "window/showMessage" else [])
+        return body.get("id") == 2
+
+    with tempfile.TemporaryDirectory() as folder, tempfile.TemporaryFile() as errors:
+        folder = os.path.realpath(folder)
+        editor, _ = begun(words, folder, errors, PULLS)
+        start = time.perf_counter()
+        for number in range(2):
+            names = "".join('import "%x";\n' % n for n in range(number * half, (number + 1) * half))
+            editor.open(os.path.join(folder, "user%d.proto" % number), USER % names)
+        last = os.path.join(folder, "last.proto")
+        editor.open(last, USER % "")
+        editor.send("textDocument/diagnostic", {"textDocument": {"uri": "file://" + quote(last)}}, id=2)
+        at, body = until(editor, comes)
+        said = [it["message"] for it in body["result"]["items"]]
+        print("%d names: a document too many is answered after %.1f s, resident memory %.0f MB; said of it %r, the user is told %r"
+              % (2 * half, at - start, resident(editor) / 1e6, said, told))
+        editor.end()
+    return 0 if all(len(it) == 1 and TOO_MANY in it[0] for it in (said, told)) else 1
+
+
 def main():
     words = argparse.ArgumentParser(usage=__doc__.split("usage: ")[1])
     words.add_argument("--program", default=PROGRAM)
     words.add_argument("--files", type=int, nargs="+", default=[5000, 20000])
     words.add_argument("--runs", type=int, default=5)
     words.add_argument("--workers", type=int, default=4)
+    words.add_argument("--names", action="store_true")
     words = words.parse_args()
+    if words.names:
+        return too_many_names(words)
     for count in words.files:
         with tempfile.TemporaryDirectory() as folder, tempfile.TemporaryFile() as errors:
             folder = os.path.realpath(folder)

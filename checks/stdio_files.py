@@ -3,13 +3,11 @@ import os
 
 from server_process import check, uri_of, write
 from stdio_client import SHOW, Editor, codes, shown_by_rights
-from stdio_lists import BAD, GOOD, HEAD, PULLS, at, begun
+from stdio_lists import BAD, GOOD, HEAD, at, begun
 
 MOST_BYTES = 1_048_576
-MOST_FILES = 65_536
 # What is said of a file that is not read.
 TOO_LONG, NOT_TEXT = "its text has more than 1048576 bytes", "its text is not UTF-8"
-TOO_MANY = "more than 65536 files are open or imported"
 CREATED, CHANGED, DELETED = 1, 2, 3
 # A file that each program can open, and none can read.
 UNREADABLE = "/proc/self/mem"
@@ -282,22 +280,6 @@ def opened_too_long(place):
     gone = {"range": {"start": {"line": 2, "character": 0}, "end": {"line": 2, "character": length}}, "text": ""}
     editor.change(path, gone)
     editor.expect_codes(path, "P120", "shorter by a range")
-    editor.leave()
-
-
-def files_too_many(place):
-    """Where more files are imported than may be, a further document has one error at its start, and the server goes on."""
-    # A client that asks for lists gets none of the documents with many imports, which would take long.
-    editor, half = begun(place, capabilities=PULLS), MOST_FILES // 2 + 1
-    for number in range(2):
-        names = "".join('import "%x";\n' % n for n in range(number * half, (number + 1) * half))
-        editor.open(at(place, "user%d.proto" % number), HEAD + names)
-    last = at(place, "last.proto")
-    editor.open(last, BAD)
-    check(unread(editor.pull(last)), TOO_MANY, "what is said of a document too many")
-    check([TOO_MANY in text for text in editor.logged(SHOW)], [True], "what the user is told: %r" % editor.logged(SHOW))
-    editor.change(at(place, "user0.proto"), BAD)
-    check(codes(editor.pull(at(place, "user0.proto"))), ["P120"], "a document that was there before")
     editor.leave()
 
 

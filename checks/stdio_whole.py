@@ -277,7 +277,8 @@ def unread_reports(place):
 
 def edited_meanwhile(place):
     """Edits while the diagnostics of all files are asked for do not keep them from coming, nor single files from being answered."""
-    tree(place)
+    count = 500
+    tree(place, count)
     editor, path = opened(place, "tree", capabilities=PULLS), at(place, "tree/user.proto")
     editor.open(path, using("d0/f0.proto", "T0"))
     label = editor.begin_to_ask(ALL, {"previousResultIds": []})
@@ -285,6 +286,6 @@ def edited_meanwhile(place):
         editor.change(path, using("d0/f0.proto", "T0") + "\n" * number)
         editor.ask(PULL, {"textDocument": {"uri": uri_of(path)}})
     reply = editor.reply(label)
-    check(len(reply["result"]["items"]), FILES, "how many reports came")
+    check(len(reply["result"]["items"]), count, "how many reports came")
     check(editor.pull(path), [], "the open file")
     editor.leave()
