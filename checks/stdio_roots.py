@@ -4,6 +4,7 @@ Each row makes a small tree, opens folders of it as an editor does, and opens a 
 missing import before the list that is right, since no list comes before the file's imports were looked for.
 """
 import os
+import random
 import re
 import shutil
 
@@ -199,6 +200,41 @@ def folders_that_change(place):
     editor.leave()
 
 
+def buf_of_an_added_folder(place):
+    """The folders of the buf file of an added folder are roots with it, and no longer once it is removed."""
+    write(place.folder, {"one/user.proto": using("c.proto"), "two/buf.yaml": "version: v2\nmodules:\n  - path: proto\n",
+                         "two/proto/c.proto": having(), "two/c.proto": having("S")})
+    editor, user = opened(place, "one"), at(place, "one/user.proto")
+    misses(place, editor, "one/user.proto")
+    for added, removed, wanted in (("two", "none", ""), ("none", "two", "P102 P150"), ("two", "none", "")):
+        event = {"added": [folder_of(at(place, added))], "removed": [folder_of(at(place, removed))]}
+        editor.say("workspace/didChangeWorkspaceFolders", {"event": event})
+        editor.expect_codes(user, wanted, "%s is added, %s is removed" % (added, removed))
+    editor.leave()
+
+
+def names_with_blanks(place):
+    """Folders and files whose names have blanks, percent signs and letters that are not ASCII are found."""
+    root, name = "a b%20c/\u00e9 d", "e f/100%.proto"
+    write(place.folder, {"%s/%s" % (root, name): having(), root + "/user 1.proto": using(name)})
+    editor = opened(place, ".")
+    finds(place, editor, root + "/user 1.proto", "%s/%s" % (root, name))
+    editor.leave()
+
+
+def found_by_links(place):
+    """A root is found below a folder that a link reaches, whether the editor writes the link's path or the real one."""
+    write(place.folder, {"real/proto/p/b.proto": having(), "real/proto/p/user.proto": using("p/b.proto")})
+    os.symlink("real", at(place, "link"))
+    for folder in ("real", "link"):
+        for name in ("real", "link"):
+            editor = opened(place, folder)
+            path = finds(place, editor, name + "/proto/p/user.proto")
+            found = editor.definition(path, *TYPE)
+            check(found in [uri_of(at(place, it + "/proto/p/b.proto")) for it in (folder, "real")], True, "the definition %s" % found)
+            editor.leave()
+
+
 def words_before_folders(place):
     """Each `--root` goes before the folders of the editor, which are roots, too."""
     write(place.folder, {"one/user.proto": using("c.proto", "Two"), "one/c.proto": having("One"), "two/c.proto": having("Two"),
@@ -287,6 +323,45 @@ def root_of_protoc(place):
     editor = opened(place, "r", program=program)
     finds(place, editor, "r/user.proto", "tools/include/" + TIMESTAMP)
     editor.end()
+
+
+# ---- random trees
+
+
+def common(a, b):
+    """The length of the longest folder in which two files lie."""
+    return len(os.path.commonprefix([a, b]).rpartition("/")[0])
+
+
+def target_of(files, folders, importer, name):
+    """The definition: the file that a name leads to, or None. All are paths below the folder of the row."""
+    own = [] if any(importer.startswith(it + "/") for it in folders) else [os.path.dirname(importer)]
+    for root in folders + own:
+        if "%s/%s" % (root, name) in files:
+            return "%s/%s" % (root, name)
+    below = [it for it in files if it.endswith("/" + name) and any(it.startswith(top + "/") for top in folders + own)]
+    return min(below, key=lambda it: (-common(it, importer), it)) if below else None
+
+
+def random_layouts(place):
+    """In random trees an import leads to the file of the first root that has it, else to the nearest file that a walk finds."""
+    chance = random.Random(place.seed)
+    for turn in range(40):
+        tree = "t%d" % turn
+        files = sorted({"/".join([tree, *chance.choices("abc", k=chance.randrange(1, 5)), chance.choice("xyz") + ".proto"]) for _ in range(25)})
+        write(place.folder, dict.fromkeys(files, having()))
+        importer = "%s/user.proto" % os.path.dirname(chance.choice(files))
+        folders = chance.sample(sorted({os.path.dirname(it) for it in files} | {tree}), chance.choice((0, 1, 1, 2)))
+        parts = chance.choice(files).split("/")
+        name = "/".join(parts[chance.randrange(1, len(parts)):])
+        editor, target, path = opened(place, *folders), target_of(files, folders, importer, name), at(place, importer)
+        editor.open(path, using(name))
+        found = editor.ask("textDocument/definition", {"textDocument": {"uri": uri_of(path)}, "position": {"line": 1, "character": 8}})
+        what = "tree %d of seed %d: the target of %s in %s, with the folders %s" % (turn, place.seed, name, importer, folders)
+        check(found and found["uri"], target and uri_of(at(place, target)), what)
+        editor.wait_for(lambda: editor.lists(path), what + ", its list")
+        check([codes(it["diagnostics"]) for it in editor.lists(path)], [[] if target else ["P102", "P150"]], what + ", its lists")
+        editor.leave()
 
 
 # ---- files that come and go

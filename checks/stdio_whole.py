@@ -11,6 +11,8 @@ from stdio_roots import folder_of, opened
 
 # The seconds after which the reply to `initialize` has come, and after which a list has come though an import is missing.
 GREETED, HELD = 0.1, 10.0
+# The seconds after which a session has ended that has to.
+SOON = 2.0
 # How many files a tree has that is walked, and a tree that no program has made for this row.
 FILES, BIG = 3000, "/usr"
 CREATE, PROGRESS = "window/workDoneProgress/create", "$/progress"
@@ -73,6 +75,24 @@ def edited_while_held(place):
     editor.wait_for(lambda: [it["version"] for it in editor.lists(path)][-1:] == [6], "the list of the last version")
     editor.expect_codes(path, "P102 P150 P120", "the list of the last version")
     editor.leave()
+
+
+def ends_while_held(place):
+    """While lists wait for a walk a request that waits is answered when it is withdrawn and when the session is shut down, soon."""
+    for turn in range(3):
+        editor, path = opened(place, folders=[folder_of(BIG)]), at(place, "user.proto")
+        editor.open(path, using("no/such/b.proto"))
+        labels = [editor.begin_to_ask(PULL, {"textDocument": {"uri": uri_of(path)}}) for _ in range(3)]
+        if turn == 1:
+            editor.say("$/cancelRequest", {"id": labels[1]})
+        if turn == 2:
+            editor.change(path, using("no/such/c.proto"))
+        start = time.monotonic()
+        editor.leave()
+        seconds = time.monotonic() - start
+        check(sorted(it for it in labels if it in editor.replies), labels, "the requests that were answered")
+        if seconds > SOON:
+            raise Failed("the session ended after %.1f seconds" % seconds)
 
 
 def greets_at_once(place):
