@@ -4,7 +4,7 @@ import os
 import time
 
 from server_process import Failed, check, uri_of, write
-from stdio_client import ALL, PULL, REFRESH, Editor, codes, plain, shown_by_rights
+from stdio_client import ALL, PULL, REFRESH, REQUEST_CANCELLED, Editor, codes, plain, shown_by_rights
 from stdio_files import CHANGED, MOST_BYTES, NOT_TEXT, TOO_LONG, having, rooted, unread, using
 from stdio_lists import BAD, GOOD, HEAD, PULLS, at, begun
 from stdio_roots import folder_of, opened
@@ -309,3 +309,33 @@ def edited_meanwhile(place):
     check(len(reply["result"]["items"]), count, "how many reports came")
     check(editor.pull(path), [], "the open file")
     editor.leave()
+
+
+def several_at_once(place):
+    """The diagnostics of all files, asked for several times at once, come each time; a request that is withdrawn is answered once."""
+    tree(place, 200)
+    editor = opened(place, "tree", capabilities=PULLS)
+    labels = [editor.begin_to_ask(ALL, {"previousResultIds": []}) for _ in range(4)]
+    editor.say("$/cancelRequest", {"id": labels[1]})
+    for label in labels:
+        reply = editor.reply(label)
+        is_whole = len(reply.get("result", {}).get("items", [])) == 200
+        is_withdrawn = label == labels[1] and reply.get("error", {}).get("code") == REQUEST_CANCELLED
+        check(is_whole or is_withdrawn, True, "the reply of %s: %s" % (label, str(reply)[:200]))
+    editor.be_quiet()
+    check([it for it in editor.replies.values() if it.get("error", {}).get("message") == "answered twice"], [], "replies that came twice")
+    editor.leave()
+
+
+def ends_while_all_are_asked(place):
+    """A session ends soon after `shutdown` and `exit` though the diagnostics of all files are under way."""
+    tree(place)
+    for pause in (0, 0.3, 1.0):
+        editor = opened(place, "tree", capabilities=PULLS)
+        editor.begin_to_ask(ALL, {"previousResultIds": []})
+        time.sleep(pause)
+        start = time.monotonic()
+        editor.leave()
+        seconds = time.monotonic() - start
+        if seconds > SOON:
+            raise Failed("the session ended after %.1f seconds" % seconds)
