@@ -10,7 +10,7 @@ use std::fs::{Metadata, OpenFile};
 use std::io::{ErrorKind, Read};
 use std::os::unix::fs::MetadataExt;
 use std::rt::{Clock, Env, Files};
-use std::time::SystemTime;
+use std::time::{CpuClock, Duration, SystemTime};
 use std::{fs, io, path};
 
 /// What a folder has, but for what a name hides that begins with a dot.
@@ -46,9 +46,12 @@ pub(crate) trait Disk {
 
     /// The seconds since 1970, by the clock of the system.
     fn seconds(&self) -> i64;
+
+    /// The time that a processor has worked for this thread. It is none if the system does not tell it.
+    fn work(&self) -> Duration;
 }
 
-impl<R: Files + Env + Clock + AllocGlobal + Clone + Drop> Disk for R {
+impl<R: Files + Env + Clock + CpuClock + AllocGlobal + Clone + Drop> Disk for R {
     fn real_path(&self, path: &str) -> Option<String> {
         match fs::canonicalize(self, path) {
             Ok(path) => Some(path.into_string()),
@@ -90,6 +93,10 @@ impl<R: Files + Env + Clock + AllocGlobal + Clone + Drop> Disk for R {
             Ok(now) => seconds_of(now),
             Err(_) => 0,
         }
+    }
+
+    fn work(&self) -> Duration {
+        self.thread_cpu_time().unwrap_or(Duration::ZERO)
     }
 }
 

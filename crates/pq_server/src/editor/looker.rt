@@ -1,9 +1,10 @@
 //! The looker of an editor's session: it looks at the disk, and tells the desk what is new.
 //!
-//! It looks at the watched paths every 1.5 seconds, and soon where the desk calls it. A look that took long
-//! is followed by a long pause, so that looks take a fiftieth of one processor. It asks for times and reads
-//! texts while it has no lock: where the file system hangs, it hangs alone. A file that was changed since
-//! it was read, and one that the desk has read since, is read again at the next look.
+//! It looks at the watched paths every 1.5 seconds, and soon where the desk calls it. The pause is longer
+//! after a look that was dear, so that looks take a fiftieth of one processor at most, and a fifth of the
+//! time where they wait for the disk. The looker asks for times and reads texts while it has no lock: where
+//! the file system hangs, it hangs alone. A file that was changed since it was read, and one that the desk
+//! has read since, is read again at the next look.
 use crate::editor::desk::Desk;
 use crate::editor::disk::Disk;
 use crate::editor::fetching::{Fetched, Fetcher, each_once};
@@ -24,14 +25,19 @@ use std::time::{Clock, Duration, Instant};
 /// as often.
 const BETWEEN: u64 = 1500;
 
-/// How often the time of a look goes into the pause after it.
-const RATIO: u32 = 50;
+/// How often the work of a look, the time of a processor, goes into the pause after it.
+const WORK: u32 = 50;
+
+/// How often the time of a look, with its waits for the disk, goes into the pause after it. Of the last two
+/// looks the shorter counts, since other programs may have held up one.
+const TIME: u32 = 4;
 
 /// The shortest time from a look to one that the desk calls for, in milliseconds.
 const SOON: u64 = 50;
 
-/// How often the time of a look goes into the pause before one that the desk calls for.
-const SOON_RATIO: u32 = 10;
+/// How often the work of a look goes into the pause before one that the desk calls for. Its time goes into
+/// it once.
+const SOON_WORK: u32 = 10;
 
 /// The files that are read one after the other, and handed to the desk under one hold of its lock.
 const AT_ONCE: usize = 32;
@@ -45,24 +51,31 @@ struct Pauses {
     soon: Duration,
 }
 
-/// The pauses after a look that took the time `took`.
-fn pauses_after(took: Duration) -> Pauses {
+/// The pauses after a look with this work and time.
+fn pauses_after(work: Duration, time: Duration) -> Pauses {
     Pauses {
-        late: longer(took.saturating_mul(RATIO), BETWEEN),
-        soon: longer(took.saturating_mul(SOON_RATIO), SOON),
+        late: longest(
+            work.saturating_mul(WORK),
+            time.saturating_mul(TIME),
+            BETWEEN,
+        ),
+        soon: longest(work.saturating_mul(SOON_WORK), time, SOON),
     }
 }
 
-/// The longer of `time` and a number of milliseconds.
-fn longer(time: Duration, millis: u64) -> Duration {
-    let least = Duration::from_millis(millis);
-    if time < least { least } else { time }
+/// The longest of two times and a number of milliseconds.
+fn longest(a: Duration, b: Duration, millis: u64) -> Duration {
+    longer(longer(a, b), Duration::from_millis(millis))
 }
 
-/// The shorter of `time` and a number of milliseconds.
-fn shorter(time: Duration, millis: u64) -> Duration {
-    let most = Duration::from_millis(millis);
-    if time < most { time } else { most }
+/// The shorter of two times.
+fn shorter(a: Duration, b: Duration) -> Duration {
+    if a < b { a } else { b }
+}
+
+/// The longer of two times.
+fn longer(a: Duration, b: Duration) -> Duration {
+    if a < b { b } else { a }
 }
 
 /// The time since `start`. It is none if the clock cannot be read.
@@ -82,7 +95,9 @@ struct Looker<'a, 'b, F: Floor<H>, H, W> {
     files: &'a Mutex<Files>,
     fetcher: Fetcher,
     watch: Watch,
-    /// The pauses after the last look.
+    /// How long the last look took.
+    time: Duration,
+    /// The pauses after it.
     pauses: Pauses,
     /// When the last look ended, and what it found was told.
     ended: Option<Instant>,
@@ -96,19 +111,20 @@ where
 {
     /// Waits for the next look. Meanwhile the desk has its turn. Returns whether the session goes on.
     fn wait(&self, calls: &Receiver<()>) -> Result<bool, ScriptFault> {
+        let between = Duration::from_millis(BETWEEN);
         let mut is_called = false;
         for _ in self.rt.forever() {
             let left = self.left(is_called);
             if left.is_zero() {
                 return Ok(true);
             }
-            match calls.recv_timeout(self.rt, shorter(left, BETWEEN)) {
+            match calls.recv_timeout(self.rt, shorter(left, between)) {
                 Ok(()) => is_called = true,
                 Err(error) => {
                     if error.is_disconnected() {
                         return Ok(false);
                     }
-                    if left <= Duration::from_millis(BETWEEN) {
+                    if left <= between {
                         return Ok(true);
                     }
                     if !self.tick()? {
@@ -151,11 +167,21 @@ where
     fn news(&mut self) -> Result<Vec<Text>, Memory> {
         self.add_watched()?;
         let mut touched = self.files.lock(self.rt).take_touched();
-        let start = Instant::now(self.rt).ok();
-        let mut paths = self.watch.look(self.rt)?;
-        self.pauses = pauses_after(time_since(self.rt, start));
+        let mut paths = self.look_once()?;
         paths.append(&mut touched)?;
         each_once(paths)
+    }
+
+    /// What a look finds new. Its work and time decide on the pauses after it.
+    fn look_once(&mut self) -> Result<Vec<Text>, Memory> {
+        let start = Instant::now(self.rt).ok();
+        let before = self.rt.work();
+        let paths = self.watch.look(self.rt)?;
+        let work = self.rt.work().saturating_sub(before);
+        let time = time_since(self.rt, start);
+        self.pauses = pauses_after(work, shorter(time, self.time));
+        self.time = time;
+        Ok(paths)
     }
 
     /// Watches what was read and looked for since the last time.
@@ -256,7 +282,8 @@ where
         files,
         fetcher: Fetcher::new(alloc, lines),
         watch: Watch::new(alloc),
-        pauses: pauses_after(Duration::ZERO),
+        time: Duration::ZERO,
+        pauses: pauses_after(Duration::ZERO, Duration::ZERO),
         ended: Instant::now(rt).ok(),
     };
     for _ in rt.forever() {
