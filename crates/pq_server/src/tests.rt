@@ -8,6 +8,7 @@ mod libraries;
 mod lingering;
 mod over_library;
 mod program;
+mod roots;
 mod scratch;
 mod sockets;
 mod support;
