@@ -35,4 +35,8 @@ mod writer;
 
 pub(crate) use disk::Disk;
 pub(crate) use lines::Lines;
+#[cfg(test)]
+pub(crate) use roots::{Roots, named_by_buf, place_of};
 pub(crate) use session::{Setup, serve_editor};
+#[cfg(test)]
+pub(crate) use tree::walk;
