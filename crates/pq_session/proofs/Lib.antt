@@ -15,3 +15,5 @@ pub mod PrefixLemmas
 pub mod ScriptLemmas
 pub mod FrameLemmas
 pub mod GatherLemmas
+pub mod LookedLemmas
+pub mod PlainLemmas

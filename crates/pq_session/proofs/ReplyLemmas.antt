@@ -4,7 +4,7 @@ use Rattle.serde_json.specs.Data.{null}
 use Rattle.serde_json.specs.Find.{of_integer, is_float}
 use Rattle.serde_json.specs.Written.{has_float}
 use Rattle.pq_frame.specs.Labels.{LabelModel, no_label, integer_label, text_label, label_data}
-use Rattle.pq_session.specs.Reply.{cancelled_data, error_data, reply_data, initialized_data}
+use Rattle.pq_session.specs.Reply.{cancelled_data, error_data, reply_data, initialized_data, editor_initialized_data}
 
 integer_is_no_float : (z : ℤ) → is_float (of_integer z) ≡ false
 integer_is_no_float (pos n) = refl
@@ -23,6 +23,9 @@ cancelled_has_no_float label started seen = rw (label_has_no_float label) refl
 
 pub initialized_has_no_float : (label : LabelModel) → has_float (reply_data (label_data label) initialized_data) ≡ false
 initialized_has_no_float label = rw (label_has_no_float label) refl
+
+pub editor_initialized_has_no_float : (label : LabelModel) → has_float (reply_data (label_data label) editor_initialized_data) ≡ false
+editor_initialized_has_no_float label = rw (label_has_no_float label) refl
 
 pub null_has_no_float : (label : LabelModel) → has_float (reply_data (label_data label) null) ≡ false
 null_has_no_float label = rw (label_has_no_float label) refl

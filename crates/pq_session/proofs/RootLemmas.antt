@@ -172,6 +172,20 @@ strip_by prefix text rest true s e = (starts_is Decides-eqb text prefix _ refl).
 strip_split : (prefix text rest : List ℕ) → strip_prefix prefix text ≡ Some rest → text ≡ prefix ++ rest
 strip_split prefix text rest e = strip_by prefix text rest (starts_with nat_eq text prefix) refl e
 
+uri_by_test : (q path : List ℕ) (t : Bool) → is_absolute q ≡ t → ◌≡◌ {A = Option (List ℕ)} (if t then Some q else None) (Some path) → (rest : List ℕ) × (q ≡ 47 ∷ rest)
+uri_by_test q path false a e = absurd (cc e)
+uri_by_test q path true a e = absolute_split q a
+
+uri_by : (uri path : List ℕ) (o : Option (List ℕ)) → strip_prefix (codes "file://") uri ≡ o → option_and_then absolute o ≡ Some path → (rest : List ℕ) × (uri ≡ codes "file:///" ++ rest)
+uri_by uri path None s e = absurd (cc e)
+uri_by uri path (Some q) s e =
+    let found = uri_by_test q path (is_absolute q) refl e in
+    (found.0, strip_split (codes "file://") uri q s ∙ ap (λ (x : List ℕ). codes "file://" ++ x) found.1)
+
+-- what a URI is that names a path
+pub path_uri : (uri path : List ℕ) → path_of uri ≡ Some path → (rest : List ℕ) × (uri ≡ codes "file:///" ++ rest)
+path_uri uri path e = uri_by uri path (strip_prefix (codes "file://") uri) refl e
+
 below_by : (root path rest : List ℕ) (o : Option (List ℕ)) → strip_prefix root path ≡ o → option_and_then (strip_prefix (codes "/")) o ≡ Some rest → path ≡ root ++ 47 ∷ rest
 below_by root path rest None s e = absurd (cc e)
 below_by root path rest (Some y) s e = strip_split root path y s ∙ ap (λ (x : List ℕ). root ++ x) (strip_split (codes "/") y rest e)

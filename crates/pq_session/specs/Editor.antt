@@ -1,7 +1,7 @@
 -- What one editor is shown (LSP 3.17, "Diagnostic", "PublishDiagnosticsParams"): the diagnostics of
 -- a file with their severities and messages, the lists that are sent without being asked for, and the
 -- texts that edits make.
-use Rattle.std.specs.Prelude.{ℕ, ◌-◌, ℤ, Bool, true, false, not, ◌&&◌, nat_le, List, [], ◌∷◌, ◌++◌, length, take, filter, flat_map, map, codes, decimal, if◌then◌else◌, Option, Some, None, option_and_then, option_map}
+use Rattle.std.specs.Prelude.{ℕ, ◌-◌, ℤ, Bool, true, false, not, ◌&&◌, ◌==◌, nat_le, List, [], ◌∷◌, ◌++◌, length, take, filter, flat_map, map, codes, decimal, if◌then◌else◌, Option, Some, None, option_and_then, option_map}
 use Rattle.std.specs.Fmt.{signed_decimal}
 use Rattle.std.specs.List.{list_any}
 use Rattle.std.specs.Option.{option_eq}
@@ -111,16 +111,13 @@ most_named = 8
 
 -- `more_folders n` is that there are `n` folders beside those that are named.
 abbrev pub more_folders : ℕ → List ℕ
-more_folders 0 = []
-more_folders 1 = codes " and 1 more folder"
-more_folders n = codes " and " ++ (decimal n ++ codes " more folders")
+more_folders n = if n == 0 then [] else (if n == 1 then codes " and 1 more folder" else codes " and " ++ (decimal n ++ codes " more folders"))
 
 -- `looked_in folders` is the text that says that an import was looked for below `folders`. It names the
 -- first ones, and counts the others. It is empty where there is no folder.
 abbrev pub looked_in : List (List ℕ) → List ℕ
-looked_in [] = []
-looked_in (folder ∷ folders) =
-    codes " (looked for in " ++ (folders_text (take most_named (folder ∷ folders)) ++ (more_folders (length (folder ∷ folders) - most_named) ++ codes ")"))
+looked_in folders =
+    if length folders == 0 then [] else codes " (looked for in " ++ (folders_text (take most_named folders) ++ (more_folders (length folders - most_named) ++ codes ")"))
 
 -- ---- lists and reports
 
@@ -152,10 +149,10 @@ abbrev pub shown_report : Bool → List ℕ → Diagnosed → ℕ → Data
 shown_report unread looked d revision =
     object (member (codes "items") (shown_items unread looked d) (member (codes "kind") (string (codes "full")) (member (codes "resultId") (string (decimal revision)) no_members)))
 
--- `shown_text label looked d revision` is the text of the response that reports the diagnostics `d` at
--- `revision`, as they are shown.
-unfoldable pub shown_text : LabelModel → List ℕ → Diagnosed → ℕ → List ℕ
-shown_text label looked d revision = compact_text (reply_data (label_data label) (shown_report (has_unread d.diagnostics) looked d revision))
+-- `shown_text label unread looked d revision` is the text of the response that reports the diagnostics
+-- `d` at `revision`, as they are shown.
+unfoldable pub shown_text : LabelModel → Bool → List ℕ → Diagnosed → ℕ → List ℕ
+shown_text label unread looked d revision = compact_text (reply_data (label_data label) (shown_report unread looked d revision))
 
 -- ---- what a reply answers
 
@@ -216,7 +213,7 @@ list_of looked reply = option_map (λ d. record { revision = reply.revision; tex
 -- is in the file of `uri`. Any other text has no URI: it is the same for each root (the law
 -- `located_as_it_is`), so it is that of the empty root.
 abbrev pub shown_or_text : {M : Type 0} → List ℕ → List ℕ → ReplyView ProtoKey ProtoValue M → Option Diagnosed → Option Location → List ℕ
-shown_or_text uri looked reply (Some d) place = shown_text (label_model reply.request.label) looked d reply.revision
+shown_or_text uri looked reply (Some d) place = shown_text (label_model reply.request.label) (has_unread d.diagnostics) looked d reply.revision
 shown_or_text uri looked reply None (Some l) = located_text (label_model reply.request.label) uri l
 shown_or_text uri looked reply None None = reply_text [] reply
 

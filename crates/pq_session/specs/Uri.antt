@@ -67,28 +67,39 @@ is_same_word text word = bytes_eq (map to_ascii_lowercase text) (map to_ascii_lo
 
 -- `is_local host` is whether `host` names this machine: it is empty, or `localhost`.
 abbrev pub is_local : List ℕ → Bool
-is_local host = bytes_eq host [] || is_same_word host (codes "localhost")
+is_local host = (length host == 0) || is_same_word host (codes "localhost")
 
 -- `rest_after_host text` is the path after its first slash, where `text` is a host of this machine and
 -- a path.
 abbrev pub rest_after_host : List ℕ → Option (List ℕ)
 rest_after_host text = option_and_then (λ parts. if is_local parts.0 then Some parts.1 else None) (cut_at slash text)
 
+-- `rest_by text after` is the path after its first slash, where `text` is what follows the scheme, and
+-- `after` what follows `//` in it, if it begins so: a host and the path.
+abbrev pub rest_by : List ℕ → Option (List ℕ) → Option (List ℕ)
+rest_by text None = strip_prefix (codes "/") text
+rest_by text (Some after) = rest_after_host after
+
 -- `local_rest text` is the path after its first slash, where `text` is what follows the scheme: a host
 -- after `//` and the path, or the path alone.
 abbrev pub local_rest : List ℕ → Option (List ℕ)
-local_rest text = elim (strip_prefix (codes "//") text) [ None ↦ strip_prefix (codes "/") text | Some after ↦ rest_after_host after ]
+local_rest text = rest_by text (strip_prefix (codes "//") text)
 
 -- `plain_rest uri` is the path of `uri` after its first slash, if `uri` has the scheme `file`, in letters
 -- of any case, and names a file of this machine.
 abbrev pub plain_rest : List ℕ → Option (List ℕ)
 plain_rest uri = option_and_then (λ parts. if is_same_word parts.0 (codes "file") then local_rest parts.1 else None) (cut_at colon uri)
 
+-- `plain_by uri rest` is the URI of the path that is `/` and `rest`, and `uri` without one.
+abbrev pub plain_by : List ℕ → Option (List ℕ) → List ℕ
+plain_by uri None = uri
+plain_by uri (Some rest) = codes "file:///" ++ rest
+
 -- `plain_uri uri` is the form of `uri` that is read: `file://` and its path, if `uri` names a file of
 -- this machine (RFC 8089, sections 2 and 3, appendix B). Any other text is itself. The law
 -- `plain_uris_stay` says that the form of a form is itself.
 unfoldable pub plain_uri : List ℕ → List ℕ
-plain_uri uri = elim (plain_rest uri) [ None ↦ uri | Some rest ↦ codes "file:///" ++ rest ]
+plain_uri uri = plain_by uri (plain_rest uri)
 
 -- ---- the root
 

@@ -3,15 +3,14 @@
 use Rattle.std.specs.Prelude.{ℕ, cond, codes, decimal, filter, map, List, []}
 use Rattle.json.specs.Token.{Token}
 use Rattle.serde_json.specs.Data.{Data, string, object, member, no_members}
-use Rattle.serde_json.specs.Written.{compact_text}
 use Rattle.pq_checks.specs.declared.errors.diagnostic.Diagnostic.{Diagnostic}
 use Rattle.pq_checks.specs.declared.errors.diagnostic.Diagnosed.{Diagnosed}
-use Rattle.pq_frame.specs.Labels.{LabelModel, label_data}
+use Rattle.pq_frame.specs.Labels.{LabelModel}
 use Rattle.pq_links.specs.declared.files.ParsedFile.{ParsedFile}
 use Rattle.pq_proto.specs.Lists.{list_data}
 use Rattle.pq_proto.specs.aux.Printed.{tokens_of}
-use Rattle.pq_session.specs.Editor.{is_shown, shown_data}
-use Rattle.pq_session.specs.Reply.{diagnostic_data, reply_data}
+use Rattle.pq_session.specs.Editor.{is_shown, shown_data, shown_text}
+use Rattle.pq_session.specs.Reply.{diagnostic_data, diagnostics_text}
 use Rattle.pq_session.specs.declared.protocol.severities.Reader.{Reader}
 use Rattle.pq_session.specs.declared.protocol.severities.Reader.TheVariants.{Any, Editor}
 
@@ -36,5 +35,6 @@ printed_report reader looked d revision =
     object (member (codes "items") (printed_items reader looked d) (member (codes "kind") (string (codes "full")) (member (codes "resultId") (string (decimal revision)) no_members)))
 
 -- `printed_text label reader looked d revision` is the text of the response that reports them.
-unfoldable pub printed_text : LabelModel → Reader → List ℕ → Diagnosed → ℕ → List ℕ
-printed_text label reader looked d revision = compact_text (reply_data (label_data label) (printed_report reader looked d revision))
+abbrev pub printed_text : LabelModel → Reader → List ℕ → Diagnosed → ℕ → List ℕ
+printed_text label Any looked d revision = diagnostics_text label d revision
+printed_text label (Editor unread) looked d revision = shown_text label unread looked d revision

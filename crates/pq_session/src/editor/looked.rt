@@ -41,21 +41,27 @@ fn push_folders(out: &mut String, folders: &[Text]) -> Result<(), AllocError>
 }
 
 /// Those of `folders` that are named: the first of them.
+#[tactic(auto, using(crate::proofs::LookedLemmas::all_named))]
 fn named(folders: &[Text]) -> &[Text]
     ensures { result.now ≡ take most_named folders.now }
 {
-    &folders[..folders.len().min(MOST)]
+    if folders.len() <= MOST {
+        return folders;
+    }
+    &folders[..MOST]
 }
 
 /// How many folders there are beside those that are named.
 fn more_text(alloc: Global, count: usize) -> Result<String, AllocError>
     ensures { IfOk result (λ s. string_bytes s ≡ more_folders count) }
 {
-    match count {
-        0 => String::from_str(alloc, ""),
-        1 => String::from_str(alloc, " and 1 more folder"),
-        _ => format!(in alloc; " and {count} more folders"),
+    if count == 0 {
+        return String::from_str(alloc, "");
     }
+    if count == 1 {
+        return String::from_str(alloc, " and 1 more folder");
+    }
+    format!(in alloc; " and {count} more folders")
 }
 
 /// The text that follows the message of an import that is not found (P102): the folders below which

@@ -78,7 +78,6 @@ fn location_text(
 
 /// The response of `value`, which a key has at `revision`. A value that no request asks for gives
 /// null.
-#[tactic(auto, unfolding(crate::specs::aux::Shown::printed_text, crate::specs::Reply::diagnostics_text))]
 fn value_text(
     alloc: Global,
     root: &Root,

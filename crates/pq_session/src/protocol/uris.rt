@@ -200,6 +200,7 @@ pub fn scheme_of(uri: &str) -> &str
 /// appendix B). Any other text is itself.
 ///
 /// Only `Memory` is an error, after an allocation failure.
+#[tactic(auto, unfolding(crate::specs::Uri::plain_uri))]
 pub fn plain_uri(alloc: Global, uri: &str) -> Result<String, AllocError>
     // The plain form of a URI is that of the definitions. The law `plain_uris_stay` says which texts
     // it leaves as they are.

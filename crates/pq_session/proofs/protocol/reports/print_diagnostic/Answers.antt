@@ -9,6 +9,7 @@ use Rattle.pq_proto.specs.Compile.{position_in}
 use Rattle.pq_proto.specs.Ranges.{range_data}
 use Rattle.pq_proto.specs.aux.Printed.{tokens_of}
 use Rattle.pq_proto.proofs.ListSteps.{link}
+use Rattle.pq_session.specs.Editor.{shown_message}
 use Rattle.pq_session.proofs.protocol.reports.print_diagnostic.Goals as goal
 
 pub returns : goal.returns
@@ -18,15 +19,15 @@ returns c =
     let f : Diagnostic = c.args.diagnostic.now in
     let o1 : List Token = c.begin_object.new.self in
     let o2 : List Token = c.text_member.new.self in
-    let o3 : List Token = c.text_member-2.new.self in
+    let o3 : List Token = c.print_message.new.out in
     let o4 : List Token = c.key.new.self in
     let o5 : List Token = c.print_range.new.out in
     let o6 : List Token = c.unsigned_member.new.self in
-    let o7 : List Token = c.text_member-3.new.self in
+    let o7 : List Token = c.text_member-2.new.self in
     let o8 : List Token = c.end_object.new.self in
     let x1 : List Token = begin_object ∷ [] in
     let x2 : List Token = key (codes "code") ∷ string (code_text f.code) ∷ [] in
-    let x3 : List Token = key (codes "message") ∷ string f.text ∷ [] in
+    let x3 : List Token = key (codes "message") ∷ string (shown_message c.args.looked.now f) ∷ [] in
     let x4 : List Token = key (codes "range") ∷ [] in
     let x5 : List Token = tokens_of (range_data (position_in file f.start) (position_in file f.end)) in
     let x6 : List Token = key (codes "severity") ∷ number (decimal c.args.severity) ∷ [] in
@@ -42,11 +43,11 @@ returns c =
     let r1 : List Token = x1 ++ r2 in
     let s1 : o1 ≡ o0 ++ x1 = c.in_ok-begin_object.ensures in
     let s2 : o2 ≡ o1 ++ x2 = c.in_ok-text_member.ensures ∙ ap (λ (t : List ℕ). o1 ++ (key (codes "code") ∷ string t ∷ [])) c.as_str.ensures.text in
-    let s3 : o3 ≡ o2 ++ x3 = c.in_ok-text_member-2.ensures ∙ ap (λ (t : List ℕ). o2 ++ (key (codes "message") ∷ string t ∷ [])) c.as_str-2.ensures.same in
+    let s3 : o3 ≡ o2 ++ x3 = c.in_ok-print_message.ensures in
     let s4 : o4 ≡ o3 ++ x4 = c.in_ok-key.ensures in
     let s5 : o5 ≡ o4 ++ x5 = c.in_ok-print_range.ensures ∙ ap₂ (λ (p q : Position). o4 ++ tokens_of (range_data p q)) c.position_in-start.ensures c.position_in-end.ensures in
     let s6 : o6 ≡ o5 ++ x6 = c.in_ok-unsigned_member.ensures in
-    let s7 : o7 ≡ o6 ++ x7 = c.in_ok-text_member-3.ensures in
+    let s7 : o7 ≡ o6 ++ x7 = c.in_ok-text_member-2.ensures in
     let s8 : o8 ≡ o7 ++ x8 = c.in_ok-end_object.ensures in
     let e8 : o8 ≡ o7 ++ r8 = s8 in
     let e7 : o8 ≡ o6 ++ r7 = link o6 o7 o8 x7 r8 s7 e8 in

@@ -8,5 +8,5 @@ use Rattle.pq_session.proofs.protocol.reports.print_diagnostics.Goals as goal
 
 pub returns : goal.returns
 returns c =
-    printed_all (λ (x : Diagnostic). shown_tokens c.args.unread c.args.file.now x) c.args.out.now c.diagnostics.out c.args.diagnostics.now c.diagnostics.diagnostic-index c.diagnostics-test.false c.diagnostics.invariant
-    ∙ ap (λ (ts : List Token). c.args.out.now ++ ts) (sym (values_shown c.args.unread c.args.file.now c.args.diagnostics.now))
+    printed_all (λ (x : Diagnostic). shown_tokens c.args.reader c.args.looked.now c.args.file.now x) c.args.out.now c.diagnostics.out c.args.diagnostics.now c.diagnostics.diagnostic-index c.diagnostics-test.false c.diagnostics.invariant
+    ∙ ap (λ (ts : List Token). c.args.out.now ++ ts) (sym (values_shown c.args.reader c.args.looked.now c.args.file.now c.args.diagnostics.now))

@@ -5,4 +5,4 @@ use Rattle.pq_session.proofs.protocol.reports.print_diagnostics.Given as goal
 
 abbrev pub invariant-diagnostics : goal.invariant-diagnostics
 invariant-diagnostics l =
-    PrintedTo (λ (f : Diagnostic). shown_tokens l.fn.unread l.fn.file f) l.fn.out l.out l.diagnostics l.diagnostic-index
+    PrintedTo (λ (f : Diagnostic). shown_tokens l.fn.reader l.fn.looked l.fn.file f) l.fn.out l.out l.diagnostics l.diagnostic-index

@@ -4,7 +4,7 @@ use Rattle.json.specs.Token.{Token, begin_object, end_object, key, string}
 use Rattle.pq_checks.specs.declared.errors.diagnostic.Diagnosed.{Diagnosed}
 use Rattle.pq_proto.specs.aux.Printed.{tokens_of}
 use Rattle.pq_proto.proofs.ListSteps.{link}
-use Rattle.pq_session.specs.Editor.{shown_items}
+use Rattle.pq_session.specs.aux.Shown.{printed_items}
 use Rattle.pq_session.proofs.protocol.reports.print_report.Goals as goal
 
 pub returns : goal.returns
@@ -19,7 +19,7 @@ returns c =
     let o6 : List Token = c.end_object.new.self in
     let x1 : List Token = begin_object ∷ [] in
     let x2 : List Token = key (codes "items") ∷ [] in
-    let x3 : List Token = tokens_of (shown_items c.args.unread d) in
+    let x3 : List Token = tokens_of (printed_items c.args.reader c.args.looked.now d) in
     let x4 : List Token = key (codes "kind") ∷ string (codes "full") ∷ [] in
     let x5 : List Token = key (codes "resultId") ∷ string (decimal c.args.revision) ∷ [] in
     let x6 : List Token = end_object ∷ [] in
