@@ -48,7 +48,7 @@ def make(folder, count):
         own = os.path.join(folder, "proto", "d%d" % (number // IN_FOLDER))
         os.makedirs(own, exist_ok=True)
         before = 'import "d%d/f%d.proto";' % (number // IN_FOLDER, number - 1) if number % IN_FOLDER else ""
-        its = head + line + before + rest.replace("bench.made", "bench.made%d" % number)
+        its = head + line + before + rest.replace("Message", "Message%d_" % number)
         size += len(its)
         with open(os.path.join(own, "f%d.proto" % number), "w") as sink:
             sink.write(its)

@@ -117,7 +117,7 @@ def main():
     with tempfile.TemporaryDirectory() as folder:
         folder, text = os.path.realpath(folder), files.proto_text(SIZE)
         for number in range(words.files):
-            put(os.path.join(folder, name_of(number)), text.replace("bench.made", "bench.made%d" % number))
+            put(os.path.join(folder, name_of(number)), text.replace("Message", "Message%d_" % number))
         put(os.path.join(folder, "seen", "s.proto"), TYPE % "Seen")
         editor = begun(words, folder)
         own, system = idle(editor, words.seconds)
