@@ -25,15 +25,27 @@ pub enum Event {
     /// The notification `initialized` (LSP 3.17, "Initialized Notification").
     Ready,
     /// A document is open from now on (LSP 3.17, "DidOpenTextDocument Notification").
-    Opens { uri: String, version: Option<i64> },
+    Opens {
+        uri: String,
+        version: Option<i64>,
+    },
     /// A document changes (LSP 3.17, "DidChangeTextDocument Notification").
-    Changes { uri: String, version: Option<i64> },
+    Changes {
+        uri: String,
+        version: Option<i64>,
+    },
     /// A document is open no longer (LSP 3.17, "DidCloseTextDocument Notification").
-    Closes { uri: String },
+    Closes {
+        uri: String,
+    },
     /// A document was written to the disk (LSP 3.17, "DidSaveTextDocument Notification").
-    Saves { uri: String },
+    Saves {
+        uri: String,
+    },
     /// A file is removed (`proto/removeFile`).
-    Removes { uri: String },
+    Removes {
+        uri: String,
+    },
     /// The files of these URIs were made, changed or deleted on the disk (LSP 3.17,
     /// "DidChangeWatchedFiles Notification").
     Touches(Vec<String>),
@@ -44,10 +56,16 @@ pub enum Event {
         removed: Vec<Root>,
     },
     /// The request for the links of a document (LSP 3.17, "Document Link Request").
-    AsksLinks { label: Label, uri: String },
+    AsksLinks {
+        label: Label,
+        uri: String,
+    },
     /// The request for the diagnostics of all files (LSP 3.17, "Workspace Diagnostics"), with the
     /// lists that the client has.
-    AsksWorkspace { label: Label, has: Vec<Previous> },
+    AsksWorkspace {
+        label: Label,
+        has: Vec<Previous>,
+    },
     /// The response to a request of the server.
     Answers,
     /// Nothing of these, or a notification whose members are not readable.
@@ -271,10 +289,7 @@ fn greeting_in(alloc: Global, params: Option<&Value>) -> Result<Greeting, AllocE
         roots: roots(alloc, params)?,
         pulls: has_diagnostics(params),
         watches: has_watchers(params),
-        refreshes: is_true(
-            params,
-            "/capabilities/workspace/diagnostics/refreshSupport",
-        ),
+        refreshes: is_true(params, "/capabilities/workspace/diagnostics/refreshSupport"),
         reports_progress: is_true(params, "/capabilities/window/workDoneProgress"),
     })
 }
