@@ -2,11 +2,11 @@
 //!
 //! A row is `BODY => EVENT`, or `BODY => ROOT` for the root of a session after the body.
 use crate::checks::{check_page, check_row_count, check_table, split_row};
-use pq_frame::Message;
 use pq_core::Label;
+use pq_frame::Message;
 use pq_session::{
-    Event, Greeting, Memory, Previous, Root, Session, event_of, plain_uri, scheme_of, with_plain_uri,
-    without_root,
+    Event, Greeting, Memory, Previous, Root, Session, event_of, plain_uri, scheme_of,
+    with_plain_uri, without_root,
 };
 use std::alloc::Global;
 use std::process::Abort;
@@ -279,7 +279,8 @@ fn show_plain_event(page: &mut Page, body: &str) {
     }
 }
 
-const PLAIN_EVENTS: &str = r#"{"jsonrpc":"2.0","method":"textDocument/didOpen","params":{"textDocument":{"uri":"File:/a.proto","version":3,"text":"hi"}}} => Opens file:///a.proto 3
+const PLAIN_EVENTS: &str =
+    r#"{"jsonrpc":"2.0","method":"textDocument/didOpen","params":{"textDocument":{"uri":"File:/a.proto","version":3,"text":"hi"}}} => Opens file:///a.proto 3
 {"id":1,"jsonrpc":"2.0","method":"textDocument/documentLink","params":{"textDocument":{"uri":"file://localhost/a"}}} => AsksLinks 1 file:///a
 {"jsonrpc":"2.0","method":"textDocument/didSave","params":{"textDocument":{"uri":"untitled:a"}}} => Saves untitled:a
 {"jsonrpc":"2.0","method":"textDocument/didSave","params":{"textDocument":{"uri":7}}} => Other

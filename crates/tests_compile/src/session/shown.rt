@@ -92,7 +92,7 @@ const HALF_READ: &str =
 
 /// The list of `d`: the message of P102 names the folders.
 const OF_D: &str =
-    r#"[{"code":"P102","message":"import \"e\" is not found (looked for in \"/p\")","range":{"end":{"character":65,"line":1},"start":{"character":62,"line":1}},"severity":1,"source":"proto"}]"#;
+    r#"[{"code":"P102","message":"import \"e\" is not found (looked for in \"/p\")","range":{"end":{"character":62,"line":1},"start":{"character":59,"line":1}},"severity":1,"source":"proto"}]"#;
 
 #[test]
 fn parts_that_are_not_read_are_not_told(rt: HostRuntime) {
@@ -162,7 +162,7 @@ fn replies_for_an_editor(rt: HostRuntime) {
 
 /// The reply for `d`: its items are those of the list.
 const REPLY_OF_D: &str =
-    r#"{"id":null,"jsonrpc":"2.0","result":{"items":[{"code":"P102","message":"import \"e\" is not found (looked for in \"/p\")","range":{"end":{"character":65,"line":1},"start":{"character":62,"line":1}},"severity":1,"source":"proto"}],"kind":"full","resultId":"1"}}"#;
+    r#"{"id":null,"jsonrpc":"2.0","result":{"items":[{"code":"P102","message":"import \"e\" is not found (looked for in \"/p\")","range":{"end":{"character":62,"line":1},"start":{"character":59,"line":1}},"severity":1,"source":"proto"}],"kind":"full","resultId":"1"}}"#;
 
 #[test]
 fn the_file_of_a_definition(rt: HostRuntime) {
