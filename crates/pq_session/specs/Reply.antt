@@ -104,21 +104,38 @@ initialized_data =
 unfoldable pub initialized_text : LabelModel → List ℕ
 initialized_text label = compact_text (reply_data (label_data label) initialized_data)
 
--- `editor_initialized_data` is the capabilities of the server for an editor. Beside those of other
--- clients it has diagnostics of all files, links of documents, notifications of saved documents, and
--- folders that change (LSP 3.17, "DiagnosticOptions", "DocumentLinkOptions",
--- "TextDocumentSyncOptions", "WorkspaceFoldersServerCapabilities").
-abbrev pub editor_initialized_data : Data
-editor_initialized_data =
-    object (member (codes "capabilities") (object
-    (member (codes "definitionProvider") (boolean true)
-    (member (codes "diagnosticProvider") (object (member (codes "interFileDependencies") (boolean true) (member (codes "workspaceDiagnostics") (boolean true) no_members)))
+-- `sync_data` is which notifications of documents an editor is to send: that one is opened, changed by
+-- ranges, saved or closed (LSP 3.17, "TextDocumentSyncOptions").
+abbrev pub sync_data : Data
+sync_data = object (member (codes "change") (number (unsigned 2)) (member (codes "openClose") (boolean true) (member (codes "save") (boolean true) no_members)))
+
+-- `folders_data` is that the folders of an editor may change (LSP 3.17,
+-- "WorkspaceFoldersServerCapabilities").
+abbrev pub folders_data : Data
+folders_data = object (member (codes "workspaceFolders") (object (member (codes "changeNotifications") (boolean true) (member (codes "supported") (boolean true) no_members))) no_members)
+
+-- `diagnostics_data` is that diagnostics of one file and of all files can be asked for (LSP 3.17,
+-- "DiagnosticOptions").
+abbrev pub diagnostics_data : Data
+diagnostics_data = object (member (codes "interFileDependencies") (boolean true) (member (codes "workspaceDiagnostics") (boolean true) no_members))
+
+-- `editor_capabilities_data` is the capabilities of the server for an editor. Beside those of other
+-- clients it has diagnostics of all files, links of documents ("DocumentLinkOptions"), notifications of
+-- saved documents, and folders that change.
+abbrev pub editor_capabilities_data : Data
+editor_capabilities_data =
+    object (member (codes "definitionProvider") (boolean true)
+    (member (codes "diagnosticProvider") diagnostics_data
     (member (codes "documentLinkProvider") (object (member (codes "resolveProvider") (boolean false) no_members))
     (member (codes "documentSymbolProvider") (boolean true)
     (member (codes "positionEncoding") (string (codes "utf-16"))
-    (member (codes "textDocumentSync") (object (member (codes "change") (number (unsigned 2)) (member (codes "openClose") (boolean true) (member (codes "save") (boolean true) no_members))))
-    (member (codes "workspace") (object (member (codes "workspaceFolders") (object (member (codes "changeNotifications") (boolean true) (member (codes "supported") (boolean true) no_members))) no_members))
-    no_members))))))))
+    (member (codes "textDocumentSync") sync_data
+    (member (codes "workspace") folders_data no_members)))))))
+
+-- `editor_initialized_data` is the result of `initialize` for an editor (LSP 3.17, "InitializeResult").
+abbrev pub editor_initialized_data : Data
+editor_initialized_data =
+    object (member (codes "capabilities") editor_capabilities_data
     (member (codes "serverInfo") (object (member (codes "name") (string (codes "pq_server")) no_members)) no_members))
 
 -- `editor_initialized_text label` is the text of the response to `initialize` for an editor.

@@ -5,7 +5,7 @@ ghost use Rattle.serde_json.specs.Written.{has_float};
 ghost use Rattle.serde_json.specs.Data.{null};
 ghost use Rattle.pq_frame.specs.Labels.{label_data};
 ghost use Rattle.pq_session.specs.Labels.{label_model};
-ghost use Rattle.pq_session.specs.Reply.{error_code, error_message, error_data, cancelled_data, reply_data, initialized_data, editor_initialized_data, refusal_text as text_of_refusal, out_of_memory_text as text_of_out_of_memory, cancelled_text as text_of_cancelled, initialized_text as text_of_initialized, editor_initialized_text as text_of_editor_initialized, null_text as text_of_null};
+ghost use Rattle.pq_session.specs.Reply.{error_code, error_message, error_data, cancelled_data, reply_data, initialized_data, sync_data, folders_data, diagnostics_data, editor_capabilities_data, editor_initialized_data, refusal_text as text_of_refusal, out_of_memory_text as text_of_out_of_memory, cancelled_text as text_of_cancelled, initialized_text as text_of_initialized, editor_initialized_text as text_of_editor_initialized, null_text as text_of_null};
 
 use crate::protocol::refusals::Refusal;
 use pq_core::Label;
@@ -64,34 +64,51 @@ fn initialized_value(alloc: Global) -> Result<Value, AllocError>
     })
 }
 
+/// Which notifications of documents an editor is to send.
+fn sync_value(alloc: Global) -> Result<Value, AllocError>
+    ensures { IfOk result (λ v. view v ≡ sync_data) }
+{
+    json!(in alloc; {"change": 2u64, "openClose": true, "save": true})
+}
+
+/// That folders of an editor may change.
+fn folders_value(alloc: Global) -> Result<Value, AllocError>
+    ensures { IfOk result (λ v. view v ≡ folders_data) }
+{
+    json!(in alloc; {"workspaceFolders": {"changeNotifications": true, "supported": true}})
+}
+
+/// That diagnostics of one file and of all files can be asked for.
+fn diagnostics_value(alloc: Global) -> Result<Value, AllocError>
+    ensures { IfOk result (λ v. view v ≡ diagnostics_data) }
+{
+    json!(in alloc; {"interFileDependencies": true, "workspaceDiagnostics": true})
+}
+
+/// The capabilities of the server for an editor.
+fn capabilities_value(alloc: Global) -> Result<Value, AllocError>
+    ensures { IfOk result (λ v. view v ≡ editor_capabilities_data) }
+{
+    let diagnostics = diagnostics_value(alloc)?;
+    let sync = sync_value(alloc)?;
+    let folders = folders_value(alloc)?;
+    json!(in alloc; {
+        "definitionProvider": true,
+        "diagnosticProvider": diagnostics,
+        "documentLinkProvider": {"resolveProvider": false},
+        "documentSymbolProvider": true,
+        "positionEncoding": "utf-16",
+        "textDocumentSync": sync,
+        "workspace": folders
+    })
+}
+
 /// The result of `initialize` for an editor: the capabilities of the server.
 fn editor_initialized_value(alloc: Global) -> Result<Value, AllocError>
     ensures { IfOk result (λ v. view v ≡ editor_initialized_data) }
 {
-    json!(in alloc; {
-        "capabilities": {
-            "definitionProvider": true,
-            "diagnosticProvider": {
-                "interFileDependencies": true,
-                "workspaceDiagnostics": true
-            },
-            "documentLinkProvider": {"resolveProvider": false},
-            "documentSymbolProvider": true,
-            "positionEncoding": "utf-16",
-            "textDocumentSync": {
-                "change": 2u64,
-                "openClose": true,
-                "save": true
-            },
-            "workspace": {
-                "workspaceFolders": {
-                    "changeNotifications": true,
-                    "supported": true
-                }
-            }
-        },
-        "serverInfo": {"name": "pq_server"}
-    })
+    let capabilities = capabilities_value(alloc)?;
+    json!(in alloc; {"capabilities": capabilities, "serverInfo": {"name": "pq_server"}})
 }
 
 /// The response to a request that was started at one revision and stopped at another.
