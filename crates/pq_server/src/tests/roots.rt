@@ -177,7 +177,7 @@ fn walks(rt: HostRuntime) -> Result<(), Fail> {
         ";
     check_row_count(&rt, 4, table);
     let dir = path_of(&rt, rt.process(), "walks")?;
-    let lines = Lines::start(&rt)?;
+    let (lines, _said) = Lines::start(&rt)?;
     for row in table.lines() {
         check_walk(&rt, &lines, dir.as_str(), row)?;
     }
