@@ -225,14 +225,6 @@ impl Roots {
         let Order { roots, .. } = order;
         Ok(roots)
     }
-
-    /// Whether there is no root but the last.
-    pub(crate) fn has_none(&self) -> bool {
-        self.given.is_empty()
-            && self.folders.is_empty()
-            && self.found.is_empty()
-            && self.own.is_empty()
-    }
 }
 
 /// The folder of the file at `path`.

@@ -80,8 +80,7 @@ fn shown_roots<D: Disk>(
     let paths = shown_paths(alloc, base, &paths)?;
     let faces = shown_paths(alloc, base, &faces)?;
     let tops = shown_paths(alloc, base, &tops)?;
-    let none = if roots.has_none() { " none" } else { "" };
-    format!(in alloc; "roots{paths} faces{faces} tops{tops}{none}")
+    format!(in alloc; "roots{paths} faces{faces} tops{tops}")
 }
 
 /// Checks what roots there are after steps.
@@ -95,7 +94,7 @@ fn check_roots<D: Disk + AllocGlobal + Abort>(rt: &D, base: &str, row: &str) -> 
 #[test]
 fn roots_in_order(rt: HostRuntime) -> Result<(), Fail> {
     let table = "\
-        last i => roots /i faces /i tops none\n\
+        last i => roots /i faces /i tops\n\
         last i, folder w, given a => roots /a /w /i faces /a /w /i tops /a /w\n\
         folder v => roots /v/p /v/q /v faces /v/p /v/q /v tops /v\n\
         folder u => roots /u/r /u faces /u/r /u tops /u\n\
