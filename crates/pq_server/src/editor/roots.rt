@@ -127,7 +127,7 @@ impl Roots {
     /// Adds the folder of the editor at `place`, and before it `named`, what its file of `buf` names. A
     /// folder that is there stays as it is.
     pub(crate) fn add_folder(&mut self, place: Place, named: Vec<Place>) -> Result<(), Memory> {
-        if self.is_only || self.folder_index(place.root.as_str()).is_some() {
+        if self.is_only || self.has_folder(place.root.as_str()) {
             return Ok(());
         }
         self.folders.push(Folder { place, named })?;
@@ -136,16 +136,18 @@ impl Roots {
 
     /// Takes out the folder of the editor whose path is `root`, and what its file of `buf` named.
     pub(crate) fn remove_folder(&mut self, root: &str) {
-        if let Some(index) = self.folder_index(root) {
-            self.folders.remove(index);
+        let place = self
+            .folders
+            .iter()
+            .position(|it| it.place.root.as_str() == root);
+        if let Some(place) = place {
+            self.folders.remove(place);
         }
     }
 
-    /// The index of the folder of the editor whose path is `root`.
-    fn folder_index(&self, root: &str) -> Option<usize> {
-        self.folders
-            .iter()
-            .position(|it| it.place.root.as_str() == root)
+    /// Whether `root` is the path of a folder of the editor.
+    fn has_folder(&self, root: &str) -> bool {
+        self.folders.iter().any(|it| it.place.root.as_str() == root)
     }
 
     /// Adds the root `root` that a missing import shows. Returns whether it did: it is not among the roots,
