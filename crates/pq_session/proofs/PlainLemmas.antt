@@ -1,5 +1,5 @@
 -- The plain form of URIs, and members that are changed in their place.
-use Rattle.std.proofs.Common.{◌≡◌, refl, sym, ◌∙◌, ap, ap₂, cond, ℕ, suc, ◌+◌, ◌<◌, ◌==◌, List, [], ◌∷◌, ◌++◌, length, Bool, true, false, Option, Some, None, option_map, Result, Ok, Err, nat_cmp, String, Global, Bor, MatchOption, add-one, inl, inr, arith}
+use Rattle.std.proofs.Common.{◌≡◌, refl, sym, ◌∙◌, ap, ap₂, cond, ℕ, suc, ◌+◌, ◌<◌, ◌==◌, List, [], ◌∷◌, ◌++◌, length, drop, Bool, true, false, Option, Some, None, option_map, Result, Ok, Err, is_eq, nat_cmp, String, Global, Bor, MatchOption, add-one, inl, inr, arith, ◌⊎◌}
 use Rattle.std.specs.Prelude.{codes, if◌then◌else◌, string_bytes, OnOk}
 use Rattle.std.specs.List.{before_first, after_first, position_or_len}
 use Rattle.std.specs.Map.{lookup, set_value}
@@ -8,7 +8,7 @@ use Rattle.std.specs.Cmp.Lexicographic.{slice_cmp}
 use Rattle.std.specs.Str.{bytes_eq}
 use Rattle.std.proofs.lemmas.Bool.{cases_Bool}
 use Rattle.std.proofs.lemmas.Map.Text.{is_eq-slice_cmp}
-use Rattle.serde_json.specs.Data.{Data, Members, null, boolean, number, string, array, object, member}
+use Rattle.serde_json.specs.Data.{Data, Members, null, boolean, number, string, array, object, member, no_members}
 use Rattle.serde_json.specs.Find.{as_str, as_object}
 use Rattle.serde_json.specs.View.{view, members_view}
 use Rattle.serde_json.specs.declared.value.Value.{Value}
