@@ -24,6 +24,7 @@ mod line;
 mod lines;
 mod logger;
 mod looker;
+mod lookout;
 mod output;
 mod pusher;
 mod reader;

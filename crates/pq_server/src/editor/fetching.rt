@@ -3,7 +3,7 @@
 //! A pipe can take the place of a file between a look at it and its opening, and a network can go away.
 //! So each list of files is read by a thread of its own, and who waits for it waits for each file two
 //! seconds at most. A thread that hangs is left to itself. Its file keeps the text that it had, and is
-//! read again later.
+//! read again later. So is one that was changed while it was read, where the fetcher is strict.
 use crate::editor::disk::Disk;
 use crate::editor::lines::Lines;
 use crate::library::Failure;
@@ -54,6 +54,8 @@ struct Got {
     stamp: Option<Stamp>,
     now: i64,
     read: Read,
+    /// Whether the file system told the same after the file was read.
+    is_steady: bool,
 }
 
 /// Reads files, and remembers how many threads hang.
@@ -61,6 +63,8 @@ struct Got {
 pub(crate) struct Fetcher {
     alloc: Global,
     lines: Lines,
+    /// Whether a file that was changed while it was read is read again later.
+    is_strict: bool,
     hung: u8,
     /// The paths that are to be read again later.
     later: Vec<Text>,
@@ -72,6 +76,18 @@ impl Fetcher {
         Fetcher {
             alloc,
             lines,
+            is_strict: false,
+            hung: 0,
+            later: Vec::new(alloc),
+        }
+    }
+
+    /// A fetcher that leaves out what was changed while it was read.
+    pub(crate) fn strict(alloc: Global, lines: Lines) -> Fetcher {
+        Fetcher {
+            alloc,
+            lines,
+            is_strict: true,
             hung: 0,
             later: Vec::new(alloc),
         }
@@ -82,8 +98,8 @@ impl Fetcher {
         mem::replace(&mut self.later, Vec::new(self.alloc))
     }
 
-    /// What is at `paths`, in their order, but for those that hang. A file that cannot be read leaves a
-    /// line.
+    /// What is at `paths`, in their order, but for those that hang, and for what a strict fetcher leaves
+    /// out: these are to be read again later. A file that cannot be read leaves a line.
     pub(crate) fn fetch<H>(&mut self, rt: &H, paths: Vec<Text>) -> Result<Vec<Fetched>, Memory>
     where
         H: Threads + Wait + Clock + Disk + AllocGlobal + Copy + Drop + Send + Sync + 'static,
@@ -120,7 +136,7 @@ impl Fetcher {
             next = next.saturating_add(1);
             let path = path.copy()?;
             match came.recv_timeout(rt, Duration::from_millis(PATIENCE)) {
-                Ok(got) => fetched.push(self.fetched_of(rt, path, got)?)?,
+                Ok(got) => self.take(rt, path, got, fetched)?,
                 Err(_) => {
                     self.hung = self.hung.saturating_add(1);
                     self.lines
@@ -133,9 +149,30 @@ impl Fetcher {
         Ok(next)
     }
 
+    /// Adds what came of `path` to `fetched`, unless a strict fetcher leaves it out.
+    fn take<H: Wait>(
+        &mut self,
+        rt: &H,
+        path: Text,
+        got: Got,
+        fetched: &mut Vec<Fetched>,
+    ) -> Result<(), Memory> {
+        if self.is_strict && !got.is_steady {
+            self.later.push(path)?;
+            return Ok(());
+        }
+        fetched.push(self.fetched_of(rt, path, got)?)?;
+        Ok(())
+    }
+
     /// What came of `path`. Why a file has no text is said.
     fn fetched_of<H: Wait>(&self, rt: &H, path: Text, got: Got) -> Result<Fetched, Memory> {
-        let Got { stamp, now, read } = got;
+        let Got {
+            stamp,
+            now,
+            read,
+            ..
+        } = got;
         let (text, fault) = self.text_in(rt, path.as_str(), read)?;
         Ok(Fetched {
             path,
@@ -218,11 +255,21 @@ fn read_all<H: Wait + Disk>(rt: &H, paths: Vec<Text>, sender: Sender<Got>) {
 fn got_at<D: Disk>(disk: &D, path: &str) -> Got {
     let now = disk.seconds();
     let stamp = disk.file_at(path);
-    let read = match stamp {
-        Some(_) => read_at(disk, path),
-        None => Read::Text(None),
-    };
-    Got { stamp, now, read }
+    if stamp.is_none() {
+        return Got {
+            stamp,
+            now,
+            read: Read::Text(None),
+            is_steady: true,
+        };
+    }
+    let read = read_at(disk, path);
+    Got {
+        stamp,
+        now,
+        read,
+        is_steady: disk.file_at(path) == stamp,
+    }
 }
 
 /// What is read of the file at `path`.

@@ -2,14 +2,15 @@
 //!
 //! It looks at the watched paths every 1.5 seconds, and soon where the desk calls it. The pause is longer
 //! after a look that was dear, so that looks take a fiftieth of one processor at most, and a fifth of the
-//! time where they wait for the disk. The looker asks for times and reads texts while it has no lock: where
-//! the file system hangs, it hangs alone. A file that was changed since it was read, and one that the desk
-//! has read since, is read again at the next look.
+//! time where they wait for the disk. Times are asked for by the `lookout`, texts are read by `fetching`:
+//! where the file system hangs, the looker goes on, and gives the desk its turns. A file that was changed
+//! while it was read, and one that the desk has read since, is read again at the next look.
 use crate::editor::desk::Desk;
 use crate::editor::disk::Disk;
 use crate::editor::fetching::{Fetched, Fetcher, each_once};
 use crate::editor::files::Files;
 use crate::editor::lines::Lines;
+use crate::editor::lookout::{Looked, Lookout, time_since};
 use crate::editor::watching::Watch;
 use crate::serving::floor::Floor;
 use crossbeam_channel::Receiver;
@@ -17,6 +18,7 @@ use pq_session::{Memory, ScriptFault};
 use pq_view::Text;
 use std::alloc::Global;
 use std::io::Write;
+use std::mem;
 use std::sync::{Mutex, Wait};
 use std::thread::Threads;
 use std::time::{Clock, Duration, Instant};
@@ -78,14 +80,6 @@ fn longer(a: Duration, b: Duration) -> Duration {
     if a < b { b } else { a }
 }
 
-/// The time since `start`. It is none if the clock cannot be read.
-fn time_since<C: Clock>(clock: &C, start: Option<Instant>) -> Duration {
-    match start {
-        Some(start) => start.elapsed(clock).unwrap_or(Duration::ZERO),
-        None => Duration::ZERO,
-    }
-}
-
 /// What the looker holds.
 #[derive(Drop)]
 struct Looker<'a, 'b, F: Floor<H>, H, W> {
@@ -94,6 +88,7 @@ struct Looker<'a, 'b, F: Floor<H>, H, W> {
     desk: &'a Mutex<Desk<'b, F, H, W>>,
     files: &'a Mutex<Files>,
     fetcher: Fetcher,
+    lookout: Lookout,
     watch: Watch,
     /// How long the last look took.
     time: Duration,
@@ -153,7 +148,9 @@ where
 
     /// Looks at the disk, and tells the desk what is new. Returns whether the session goes on.
     fn look(&mut self) -> Result<bool, ScriptFault> {
-        let paths = self.news()?;
+        let Some(paths) = self.news()? else {
+            return Ok(false);
+        };
         let goes_on = if paths.is_empty() {
             self.tick()?
         } else {
@@ -163,25 +160,46 @@ where
         Ok(goes_on)
     }
 
-    /// The paths that are to be read: what a look finds new, and what was touched.
-    fn news(&mut self) -> Result<Vec<Text>, Memory> {
+    /// The paths that are to be read: what a look finds new, and what was touched. `None` if the session
+    /// does not go on.
+    fn news(&mut self) -> Result<Option<Vec<Text>>, ScriptFault> {
         self.add_watched()?;
-        let mut touched = self.files.lock(self.rt).take_touched();
-        let mut paths = self.look_once()?;
-        paths.append(&mut touched)?;
-        each_once(paths)
+        let touched = self.files.lock(self.rt).take_touched();
+        match self.look_once()? {
+            Some(paths) => Ok(Some(both(paths, touched)?)),
+            None => Ok(None),
+        }
     }
 
-    /// What a look finds new. Its work and time decide on the pauses after it.
-    fn look_once(&mut self) -> Result<Vec<Text>, Memory> {
-        let start = Instant::now(self.rt).ok();
-        let before = self.rt.work();
-        let paths = self.watch.look(self.rt)?;
-        let work = self.rt.work().saturating_sub(before);
-        let time = time_since(self.rt, start);
+    /// What a look finds new. Meanwhile the desk has its turns. `None` if the session does not go on.
+    fn look_once(&mut self) -> Result<Option<Vec<Text>>, ScriptFault> {
+        let watch = mem::replace(&mut self.watch, Watch::new(self.alloc));
+        self.lookout.ask(self.rt, watch)?;
+        let between = Duration::from_millis(BETWEEN);
+        for _ in self.rt.forever() {
+            if let Some(looked) = self.lookout.take(self.rt, between)? {
+                return Ok(Some(self.keep(looked)?));
+            }
+            if !self.tick()? {
+                return Ok(None);
+            }
+        }
+        unreachable!()
+    }
+
+    /// Keeps what is known after `looked`, whose work and time decide on the pauses after it. Returns what
+    /// it found new.
+    fn keep(&mut self, looked: Looked) -> Result<Vec<Text>, Memory> {
+        let Looked {
+            watch,
+            news,
+            work,
+            time,
+        } = looked;
+        self.watch = watch;
         self.pauses = pauses_after(work, shorter(time, self.time));
         self.time = time;
-        Ok(paths)
+        news
     }
 
     /// Watches what was read and looked for since the last time.
@@ -201,21 +219,13 @@ where
         self.settle()
     }
 
-    /// What is at `paths`, but for files that hang and files that were changed since they were read: those
+    /// What is at `paths`, but for files that hang and files that were changed while they were read: those
     /// are read again after the next look.
     fn fetch(&mut self, paths: &[Text]) -> Result<Vec<Fetched>, Memory> {
         let fetched = self.fetcher.fetch(self.rt, copies(self.alloc, paths)?)?;
-        let mut again = self.fetcher.take_later();
-        let mut kept = Vec::new(self.alloc);
-        for it in fetched {
-            if self.rt.file_at(it.path.as_str()) == it.stamp {
-                kept.push(it)?;
-            } else {
-                again.push(it.path.copy()?)?;
-            }
-        }
+        let again = self.fetcher.take_later();
         self.files.lock(self.rt).touch(&again)?;
-        Ok(kept)
+        Ok(fetched)
     }
 
     /// Hands `fetched` to the desk, but for what the desk has read since the look: that is read again
@@ -251,6 +261,14 @@ where
     }
 }
 
+/// The paths of `news` and of `touched`, each once.
+fn both(news: Vec<Text>, touched: Vec<Text>) -> Result<Vec<Text>, Memory> {
+    let mut paths = news;
+    let mut touched = touched;
+    paths.append(&mut touched)?;
+    each_once(paths)
+}
+
 /// Copies of `paths`.
 fn copies(alloc: Global, paths: &[Text]) -> Result<Vec<Text>, Memory> {
     let mut list = Vec::new(alloc);
@@ -280,7 +298,8 @@ where
         alloc,
         desk,
         files,
-        fetcher: Fetcher::new(alloc, lines),
+        fetcher: Fetcher::strict(alloc, lines),
+        lookout: Lookout::start(rt)?,
         watch: Watch::new(alloc),
         time: Duration::ZERO,
         pauses: pauses_after(Duration::ZERO, Duration::ZERO),

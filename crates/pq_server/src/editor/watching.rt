@@ -1,14 +1,16 @@
 //! The paths that a session has read or looked for, and what a look at the disk finds new of them.
 //!
 //! A look asks for the times of each watched path. A path where no file is is watched, too. Which files
-//! are to be read again is a question of `pq_view::Looks`.
+//! are to be read again is a question of `pq_view::Looks`. It is asked of those alone that may be news, so
+//! that no texts are compared for the others.
 use crate::editor::disk::Disk;
-use crate::editor::fetching::each_once;
 use pq_session::Memory;
 use pq_view::{Looks, Stamp, Text};
 use std::alloc::Global;
-use std::collections::BTreeSet;
-use std::mem;
+use std::collections::{BTreeMap, BTreeSet};
+
+/// How many seconds after a change a file may be news though its times are the same. `Looks` takes no more.
+const RECENT: i64 = 3;
 
 /// A path as it was when it was read.
 #[derive(Drop)]
@@ -20,17 +22,51 @@ pub(crate) struct Watched {
     pub(crate) now: i64,
 }
 
-/// The watched paths, and what was seen of them last.
+/// What was seen last of a path.
+#[derive(Clone, Copy)]
+struct Seen {
+    stamp: Option<Stamp>,
+    now: i64,
+}
+
+impl Seen {
+    /// Whether the path may be news of which the file system tells `stamp` now.
+    fn may_be_news(self, stamp: Option<Stamp>) -> bool {
+        if self.stamp != stamp {
+            return true;
+        }
+        match stamp {
+            Some(stamp) => self.now.saturating_sub(RECENT) <= stamp.changed_seconds,
+            None => false,
+        }
+    }
+
+    /// Adds this to `looks`, as what was seen of `path`.
+    fn add_to(self, looks: &mut Looks, path: &Text) -> Result<(), Memory> {
+        match self.stamp {
+            Some(stamp) => looks.see(path.as_str(), stamp, self.now),
+            None => Ok(()),
+        }
+    }
+}
+
+/// A path that may be news.
+#[derive(Drop)]
+pub(crate) struct Doubt {
+    path: Text,
+    /// What the look before saw of it.
+    before: Seen,
+    /// What the last look saw of it.
+    after: Seen,
+}
+
+/// The watched paths.
 #[derive(Drop)]
 pub(crate) struct Watch {
     alloc: Global,
-    paths: BTreeSet<Text>,
-    /// The files that were there.
-    files: Looks,
+    paths: BTreeMap<Text, Seen>,
     /// The paths that were added since the last look.
     added: BTreeSet<Text>,
-    /// Paths that the next look returns, whatever it sees.
-    again: Vec<Text>,
 }
 
 impl Watch {
@@ -38,31 +74,16 @@ impl Watch {
     pub(crate) fn new(alloc: Global) -> Watch {
         Watch {
             alloc,
-            paths: BTreeSet::new(alloc),
-            files: Looks::new(alloc),
+            paths: BTreeMap::new(alloc),
             added: BTreeSet::new(alloc),
-            again: Vec::new(alloc),
         }
     }
 
     /// Watches the path of `watched` from now on. A path that is watched counts as seen so.
     pub(crate) fn add(&mut self, watched: Watched) -> Result<(), Memory> {
         let Watched { path, stamp, now } = watched;
-        match stamp {
-            Some(stamp) => self.files.see(path.as_str(), stamp, now)?,
-            None => self.lose(&path)?,
-        }
         self.added.insert(path.copy()?)?;
-        self.paths.insert(path)?;
-        Ok(())
-    }
-
-    /// No file was at `path`. Where the last look saw one, a later file may have its times, as after a
-    /// folder could not be entered for a while: so the path is returned by the next look.
-    fn lose(&mut self, path: &Text) -> Result<(), Memory> {
-        if self.files.stamp(path.as_str()).is_some() {
-            self.again.push(path.copy()?)?;
-        }
+        self.paths.insert(path, Seen { stamp, now })?;
         Ok(())
     }
 
@@ -79,27 +100,36 @@ impl Watch {
         self.added.contains(path)
     }
 
-    /// Asks for the times of each watched path. Returns those that are new, changed or gone since they
-    /// were seen last, each once, in byte order.
-    pub(crate) fn look<D: Disk>(&mut self, disk: &D) -> Result<Vec<Text>, Memory> {
-        let seen = self.seen(disk)?;
-        let mut news = seen.news(&self.files)?;
-        let mut again = mem::replace(&mut self.again, Vec::new(self.alloc));
-        news.append(&mut again)?;
-        self.files = seen;
-        self.added.clear();
-        each_once(news)
-    }
-
-    /// The files that are at the watched paths now.
-    fn seen<D: Disk>(&self, disk: &D) -> Result<Looks, Memory> {
+    /// Asks for the times of each watched path. Returns those that may be new, changed or gone since they
+    /// were seen last.
+    pub(crate) fn ask<D: Disk>(&mut self, disk: &D) -> Result<Vec<Doubt>, Memory> {
         let now = disk.seconds();
-        let mut seen = Looks::new(self.alloc);
-        for path in self.paths.iter() {
-            if let Some(stamp) = disk.file_at(path.as_str()) {
-                seen.see(path.as_str(), stamp, now)?;
+        let mut doubts = Vec::new(self.alloc);
+        for (path, seen) in self.paths.iter_mut() {
+            let stamp = disk.file_at(path.as_str());
+            let before = *seen;
+            let after = Seen { stamp, now };
+            *seen = after;
+            if before.may_be_news(stamp) {
+                doubts.push(Doubt {
+                    path: path.copy()?,
+                    before,
+                    after,
+                })?;
             }
         }
-        Ok(seen)
+        self.added.clear();
+        Ok(doubts)
     }
+}
+
+/// The paths of `doubts` that are new, changed or gone, each once. Of N doubts it takes N log N comparisons.
+pub(crate) fn news_of(alloc: Global, doubts: &[Doubt]) -> Result<Vec<Text>, Memory> {
+    let mut before = Looks::new(alloc);
+    let mut after = Looks::new(alloc);
+    for it in doubts {
+        it.before.add_to(&mut before, &it.path)?;
+        it.after.add_to(&mut after, &it.path)?;
+    }
+    after.news(&before)
 }
